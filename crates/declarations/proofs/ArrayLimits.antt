@@ -7,7 +7,7 @@ use Rattle.std.proofs.lemmas.Bool.Decides.{nat_tests}
 use Rattle.std.proofs.lemmas.List.Elements.{All-cons, All-nil}
 use Rattle.hpf_base.specs.declared.limits.TheConstants.{MAX_BOUND, MAX_RANK, MAX_ELEMENTS}
 use Rattle.declarations.specs.declared.limits.TheConstants.{MAX_TOTAL_ELEMENTS}
-use Rattle.expression_rules.specs.Directive.{Bound}
+use Rattle.syntax_tree.specs.Directive.{Bound}
 use Rattle.expression_rules.specs.declared.dims.Dim.{Dim}
 use Rattle.expression_rules.specs.Dims.{AreDims, IsDim, elements, extent}
 use Rattle.expression_rules.specs.Symbols.{SymbolTable, all_elements}

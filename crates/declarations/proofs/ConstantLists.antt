@@ -4,7 +4,7 @@ use Rattle.std.specs.Prelude.{◌&&◌, ◌||◌, not}
 use Rattle.std.specs.List.{list_all, list_any}
 use Rattle.hpf_base.specs.declared.refusal.Reason.{Reason}
 use Rattle.hpf_base.specs.declared.refusal.Reason.TheVariants as reason
-use Rattle.expression_rules.specs.Expression.{Expression}
+use Rattle.syntax_tree.specs.Expression.{Expression}
 use Rattle.expression_rules.specs.Symbols.{SymbolTable}
 use Rattle.expression_rules.specs.Constants.{value}
 use Rattle.expression_rules.specs.Operands.{are_operands}

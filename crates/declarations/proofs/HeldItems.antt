@@ -3,15 +3,15 @@ use Rattle.std.proofs.Common.{◌≡◌, ℕ, List, [], ◌∷◌, ◌++◌, map
 use Rattle.std.specs.Prelude.{Vec}
 use Rattle.std.specs.List.{flat_map}
 use Rattle.hpf_base.specs.FirstBreach.{at_line, earlier, least}
-use Rattle.expression_rules.specs.ConstDef.{ConstDef}
-use Rattle.expression_rules.specs.Decl.{Decl}
-use Rattle.expression_rules.specs.DeclKind.TheVariants as declared
-use Rattle.expression_rules.specs.Entity.{Entity as HeldEntity}
-use Rattle.expression_rules.specs.IntegerDecl.{IntegerDecl}
-use Rattle.expression_rules.specs.TreeDirective.{Directive}
-use Rattle.expression_rules.specs.TreeDirective.TheVariants as directive
-use Rattle.expression_rules.specs.Directive.{Bound, arrangement, directive_of, entity}
-use Rattle.expression_rules.specs.MainProgram.{Directed, Integer, declared_of, named_constant, type_declaration}
+use Rattle.syntax_tree.specs.declared.decl.ConstDef.{ConstDef}
+use Rattle.syntax_tree.specs.declared.decl.Decl.{Decl}
+use Rattle.syntax_tree.specs.declared.decl.DeclKind.TheVariants as declared
+use Rattle.syntax_tree.specs.declared.decl.Entity.{Entity as HeldEntity}
+use Rattle.syntax_tree.specs.declared.decl.IntegerDecl.{IntegerDecl}
+use Rattle.syntax_tree.specs.declared.directive.Directive.{Directive}
+use Rattle.syntax_tree.specs.declared.directive.Directive.TheVariants as directive
+use Rattle.syntax_tree.specs.Directive.{Bound, arrangement, directive_of, entity}
+use Rattle.syntax_tree.specs.MainProgram.{Directed, Integer, declared_of, named_constant, type_declaration}
 use Rattle.expression_rules.specs.Symbols.{SymbolTable}
 use Rattle.declarations.specs.declared.declared_items.Space.TheVariants.{Template, Arrangement}
 use Rattle.declarations.specs.Declarations.{DimensionAttribute, TypedEntity, Definition, TemplateEntity, ArrangementEntity, PlacedItem, after_all, bounds_of, items_of, own_or}

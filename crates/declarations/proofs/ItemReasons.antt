@@ -5,8 +5,8 @@ use Rattle.std.specs.List.{flat_map, list_all, list_any}
 use Rattle.hpf_base.specs.declared.limits.TheConstants.{MAX_RANK}
 use Rattle.hpf_base.specs.declared.refusal.Reason.{Reason}
 use Rattle.hpf_base.specs.declared.refusal.Reason.TheVariants as reason
-use Rattle.expression_rules.specs.Directive.{Bound, Entity}
-use Rattle.expression_rules.specs.MainProgram.{NamedConstant}
+use Rattle.syntax_tree.specs.Directive.{Bound, Entity}
+use Rattle.syntax_tree.specs.MainProgram.{NamedConstant}
 use Rattle.expression_rules.specs.Symbols.{SymbolTable, find, is_uninitialized, satisfies}
 use Rattle.expression_rules.specs.Constants.{value}
 use Rattle.expression_rules.specs.Operands.{are_operands}

@@ -6,8 +6,8 @@ use Rattle.hpf_base.specs.declared.refusal.Reason.{Reason}
 use Rattle.hpf_base.specs.declared.refusal.Refusal.{Refusal}
 use Rattle.hpf_base.specs.FirstBreach.{at_line, earlier, least}
 use Rattle.hpf_base.proofs.FirstBreaches.{earlier_assoc, earlier_none, least_append}
-use Rattle.expression_rules.specs.Decl.{Decl}
-use Rattle.expression_rules.specs.MainProgram.{declaration}
+use Rattle.syntax_tree.specs.declared.decl.Decl.{Decl}
+use Rattle.syntax_tree.specs.MainProgram.{declaration}
 use Rattle.expression_rules.specs.Symbols.{SymbolTable}
 use Rattle.expression_rules.proofs.Lists.{drop_item}
 use Rattle.declarations.specs.Declarations.{Item, PlacedItem, after, after_all, items}

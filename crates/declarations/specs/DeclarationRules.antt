@@ -8,8 +8,8 @@ use Rattle.declarations.specs.declared.limits.TheConstants.{MAX_NAMES}
 use Rattle.hpf_base.specs.declared.refusal.Reason.{Reason}
 use Rattle.hpf_base.specs.declared.refusal.Reason.TheVariants as reason
 use Rattle.hpf_base.specs.declared.refusal.Refusal.{Refusal}
-use Rattle.expression_rules.specs.Expression.{Expression}
-use Rattle.expression_rules.specs.Directive.{Bound}
+use Rattle.syntax_tree.specs.Expression.{Expression}
+use Rattle.syntax_tree.specs.Directive.{Bound}
 use Rattle.expression_rules.specs.Symbols.{Name, SymbolTable, find, is_declared, satisfies, is_uninitialized}
 use Rattle.expression_rules.specs.declared.evaluated.Evaluated.{Evaluated}
 use Rattle.expression_rules.specs.declared.evaluated.Evaluated.TheVariants.{Invalid}

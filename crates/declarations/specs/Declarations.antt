@@ -5,9 +5,9 @@ use Rattle.std.specs.Prelude.{ℕ, ◌+◌, Bool, true, false, ◌||◌, nat_lt,
 use Rattle.std.specs.List.{list_any, flat_map}
 use Rattle.hpf_base.specs.declared.limits.TheConstants.{MAX_BOUND, MAX_ELEMENTS, MAX_RANK}
 use Rattle.declarations.specs.declared.limits.TheConstants.{MAX_TOTAL_ELEMENTS}
-use Rattle.expression_rules.specs.Expression.{Expression}
-use Rattle.expression_rules.specs.Directive.{Bound, Entity, Processors, Template as TemplateDirective}
-use Rattle.expression_rules.specs.MainProgram.{NamedConstant, Declared, Integer, Parameter, Directed, Declaration}
+use Rattle.syntax_tree.specs.Expression.{Expression}
+use Rattle.syntax_tree.specs.Directive.{Bound, Entity, Processors, Template as TemplateDirective}
+use Rattle.syntax_tree.specs.MainProgram.{NamedConstant, Declared, Integer, Parameter, Directed, Declaration}
 use Rattle.expression_rules.specs.Dims.{elements}
 use Rattle.expression_rules.specs.Symbols.{SymbolTable, find, added, changed, satisfies, is_uninitialized, all_elements}
 use Rattle.expression_rules.specs.declared.dims.Dim.{Dim}

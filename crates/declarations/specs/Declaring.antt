@@ -7,13 +7,13 @@ use Rattle.hpf_base.specs.declared.limits.TheConstants.{MAX_ELEMENTS}
 use Rattle.hpf_base.specs.Refusal.{number_of}
 use Rattle.hpf_base.specs.declared.refusal.Reason.{Reason}
 use Rattle.hpf_base.specs.declared.refusal.Reason.TheVariants as reason
-use Rattle.expression_rules.specs.Bound.{Bound as HeldBound}
-use Rattle.expression_rules.specs.ConstDef.{ConstDef}
-use Rattle.expression_rules.specs.Decl.{Decl}
-use Rattle.expression_rules.specs.Entity.{Entity as HeldEntity}
-use Rattle.expression_rules.specs.Expression.{Expression}
-use Rattle.expression_rules.specs.Directive.{Bound, Entity, bound, entity, arrangement}
-use Rattle.expression_rules.specs.MainProgram.{declared_of, named_constant}
+use Rattle.syntax_tree.specs.declared.decl.Bound.{Bound as HeldBound}
+use Rattle.syntax_tree.specs.declared.decl.ConstDef.{ConstDef}
+use Rattle.syntax_tree.specs.declared.decl.Decl.{Decl}
+use Rattle.syntax_tree.specs.declared.decl.Entity.{Entity as HeldEntity}
+use Rattle.syntax_tree.specs.Expression.{Expression}
+use Rattle.syntax_tree.specs.Directive.{Bound, Entity, bound, entity, arrangement}
+use Rattle.syntax_tree.specs.MainProgram.{declared_of, named_constant}
 use Rattle.expression_rules.specs.Symbols.{SymbolTable}
 use Rattle.expression_rules.specs.Constants.{value}
 use Rattle.expression_rules.specs.Operands.{are_operands}

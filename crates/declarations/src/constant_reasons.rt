@@ -2,17 +2,18 @@
 
 ghost use Rattle.std.specs.Prelude.{◌≡◌, [], ◌∷◌, map, option_map, IfOk};
 ghost use Rattle.std.specs.List.{flat_map};
-ghost use Rattle.expression_rules.specs.Directive.{bound};
-ghost use Rattle.expression_rules.specs.Expression.{expression};
+ghost use Rattle.syntax_tree.specs.Directive.{bound};
+ghost use Rattle.syntax_tree.specs.Expression.{expression};
 ghost use Rattle.declarations.specs.Declarations.{bounds_of};
 ghost use Rattle.declarations.specs.Declaring.{bounds_held, constant_reason};
 ghost use Rattle.declarations.specs.DeclarationRules.{is_invalid};
 ghost use Rattle.expression_rules.specs.Inner.{bound_expressions, present};
 
 use crate::least_reason::{lesser, reason_if};
-use expression_rules::{Bound, Evaluated, Expr, Scope, are_operands, value};
+use expression_rules::{Evaluated, Scope, are_operands, value};
 use hpf_base::Reason;
 use std::alloc::{AllocError, Global};
+use syntax_tree::{Bound, Expr};
 
 /// The value breaks a rule: the expression isn't constant, or divides by zero.
 fn is_invalid(found: &Evaluated<i64>) -> bool

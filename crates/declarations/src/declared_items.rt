@@ -1,9 +1,9 @@
 //! What a declaration says of one name.
 
 ghost use Rattle.std.specs.Prelude.{◌≡◌, option_map, IfOk, OnOk};
-ghost use Rattle.expression_rules.specs.Directive.{arrangement, entity};
-ghost use Rattle.expression_rules.specs.Expression.{expression};
-ghost use Rattle.expression_rules.specs.MainProgram.{named_constant};
+ghost use Rattle.syntax_tree.specs.Directive.{arrangement, entity};
+ghost use Rattle.syntax_tree.specs.Expression.{expression};
+ghost use Rattle.syntax_tree.specs.MainProgram.{named_constant};
 ghost use Rattle.expression_rules.specs.Symbols.{find, is_uninitialized, satisfies};
 ghost use Rattle.declarations.specs.Declarations.{after, own_or, number, rank_in_text, symbol_of, Definition, TypedEntity};
 ghost use Rattle.declarations.specs.Declaring.{bounds_held, least_reason, space_item, space_symbol, typed_item};
@@ -13,9 +13,10 @@ use crate::constant_reasons::{dims_reason, expression_reason, option_reason};
 use crate::declared_names::{DeclaredNames, is_declared, is_uninitialized};
 use crate::least_reason::{lesser, reason_if};
 use crate::limits::{MAX_NAMES, is_past_limits, known_dims, number, number_or};
-use expression_rules::{Bound, ConstDef, Entity, Expr, Scope, Symbol};
+use expression_rules::{Scope, Symbol};
 use hpf_base::{MAX_RANK, Name, Reason};
 use std::alloc::{AllocError, Global};
+use syntax_tree::{Bound, ConstDef, Entity, Expr};
 
 /// What a directive declares.
 #[derive(Clone, Copy)]

@@ -4,8 +4,8 @@
 ghost use Rattle.std.specs.Prelude.{◌≡◌, [], map, IfOk, OnOk};
 ghost use Rattle.std.specs.List.{flat_map};
 ghost use Rattle.hpf_base.specs.FirstBreach.{least};
-ghost use Rattle.expression_rules.specs.Directive.{directive_of};
-ghost use Rattle.expression_rules.specs.MainProgram.{declaration, type_declaration, Directed, Integer};
+ghost use Rattle.syntax_tree.specs.Directive.{directive_of};
+ghost use Rattle.syntax_tree.specs.MainProgram.{declaration, type_declaration, Directed, Integer};
 ghost use Rattle.declarations.specs.Declarations.{after_all, bounds_of, items, items_of, symbol_table};
 ghost use Rattle.declarations.specs.Declaring.{bounds_held, constant_reason, definition_items, items_in, placed_item, space_items, typed_items};
 ghost use Rattle.declarations.specs.DeclarationRules.{item_breaches};
@@ -14,11 +14,10 @@ ghost use Rattle.expression_rules.specs.Inner.{bound_expressions};
 use crate::constant_reasons::dims_reason;
 use crate::declared_items::{Space, definition, space_entity, typed_entity};
 use crate::declared_names::DeclaredNames;
-use expression_rules::{
-    Bound, ConstDef, Decl, DeclKind, Directive, Entity, IntegerDecl, Scope, SymbolTable,
-};
+use expression_rules::{Scope, SymbolTable};
 use hpf_base::{Reason, Refusal, at_line, earlier};
 use std::alloc::{AllocError, Global};
+use syntax_tree::{Bound, ConstDef, Decl, DeclKind, Directive, Entity, IntegerDecl};
 
 /// The symbol table of declarations, and the first breach of the rules of names and constants among them, where there is one.
 #[derive(Drop)]

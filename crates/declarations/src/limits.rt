@@ -3,16 +3,17 @@
 ghost use Rattle.std.specs.Prelude.{◌≡◌, ◌≤◌, map, option_map, All, IfOk};
 ghost use Rattle.std.specs.List.{list_any};
 ghost use Rattle.declarations.specs.declared.limits.TheConstants.{MAX_TOTAL_ELEMENTS};
-ghost use Rattle.expression_rules.specs.Directive.{bound};
-ghost use Rattle.expression_rules.specs.Expression.{expression};
+ghost use Rattle.syntax_tree.specs.Directive.{bound};
+ghost use Rattle.syntax_tree.specs.Expression.{expression};
 ghost use Rattle.expression_rules.specs.Dims.{IsDim};
 ghost use Rattle.declarations.specs.Declarations.{dims, if_known, is_bound_too_far, is_past_limits, is_too_far, is_too_large, known_dims, number, number_or};
 ghost use Rattle.declarations.specs.Declaring.{and_dim, capped_elements};
 
 use crate::declared_names::DeclaredNames;
-use expression_rules::{Bound, Dim, Dims, Evaluated, Expr, Scope, extent, value};
+use expression_rules::{Dim, Dims, Evaluated, Scope, extent, value};
 use hpf_base::{MAX_BOUND, MAX_ELEMENTS, MAX_RANK};
 use std::alloc::{AllocError, Global};
+use syntax_tree::{Bound, Expr};
 
 /// The greatest number of names that a program declares.
 pub const MAX_NAMES: usize = 256;

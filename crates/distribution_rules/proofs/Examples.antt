@@ -4,7 +4,7 @@ use Rattle.std.specs.Prelude.{◌≡◌, refl, codes, List, [], ◌∷◌, ℕ, 
 use Rattle.std.specs.Int.{int_wrap}
 use Rattle.hpf_base.specs.declared.refusal.Reason.{Reason}
 use Rattle.hpf_base.specs.declared.refusal.Reason.TheVariants.{BadDirective, Limit, BadConstant}
-use Rattle.op_tables.specs.declared.op.Op.TheVariants as op
+use Rattle.name_table.specs.Op.TheVariants as op
 use Rattle.syntax_tree.specs.Directive.{Distribution, GenBlock}
 use Rattle.syntax_tree.specs.Expression.{Expression, Number, Name as Alone, Unary}
 use Rattle.mappings.specs.declared.mapping.AlignDim.TheVariants.{Linear}

@@ -7,5 +7,3 @@ mod Typings
 mod Referenced
 mod Dummies
 pub mod Turns
-pub use Rattle.syntax_tree.proofs.Rows
-pub use Rattle.syntax_tree.proofs.Designators

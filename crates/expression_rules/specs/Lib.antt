@@ -5,21 +5,3 @@ pub mod Types
 pub mod Operands
 pub mod Partial
 pub mod Inner
-pub use Rattle.syntax_tree.specs.declared.stmt.Stmt
-pub use Rattle.syntax_tree.specs.declared.stmt.Arm
-pub use Rattle.syntax_tree.specs.declared.stmt.StatementKind
-pub use Rattle.syntax_tree.specs.Expression
-pub use Rattle.syntax_tree.specs.Statement
-pub use Rattle.syntax_tree.specs.declared.expr.Expr
-pub use Rattle.syntax_tree.specs.declared.stmt.DoLoop
-pub use Rattle.syntax_tree.specs.declared.stmt.Header
-pub use Rattle.syntax_tree.specs.Directive
-pub use Rattle.syntax_tree.specs.declared.decl.ConstDef
-pub use Rattle.syntax_tree.specs.declared.decl.Decl
-pub use Rattle.syntax_tree.specs.declared.decl.DeclKind
-pub use Rattle.syntax_tree.specs.declared.decl.Entity
-pub use Rattle.syntax_tree.specs.declared.decl.IntegerDecl
-pub use Rattle.syntax_tree.specs.declared.directive.Directive as TreeDirective
-pub use Rattle.syntax_tree.specs.MainProgram
-pub use Rattle.syntax_tree.specs.declared.decl.Bound
-pub use Rattle.syntax_tree.specs.declared.stmt.Mark

@@ -25,10 +25,5 @@ pub use evaluated::{Evaluated, Numbers};
 pub use operands::{are_operands, is_operand_reference};
 pub use scope::{Scope, is_among};
 pub use symbols::{Symbol, SymbolTable};
-pub use syntax_tree::{
-    Arm, Bound, ConstDef, Decl, DeclKind, Directive, DistSpec, DoLoop, EndForm, Entity, Expr,
-    Format, Header, IntegerDecl, Item, Mark, Ref, Source, StatementKind, Stmt, Subscript, Target,
-    Tree,
-};
 pub use types::{Context, DataType, TypeAndRank, is_integer_scalar, is_logical_scalar};
 pub use typing::{reference_type, type_and_rank};

@@ -45,7 +45,7 @@ use Rattle.nest_machine.specs.Finals.{final_slot}
 use Rattle.nest_machine.specs.Placed.{PlacedTexts}
 use Rattle.nest_machine.specs.PlacedEnds.{IsPlacedFinal}
 use Rattle.nest_machine.proofs.PlacedCopies.{row-each}
-use Rattle.nest_texts.specs.NestBodies.{nest_layout}
+use Rattle.nest_join.specs.NestBodies.{nest_layout}
 use Rattle.statement_trail.specs.NestParts.{index_in}
 use Rattle.nest_join.specs.NestNames.{NestNames}
 use Rattle.nest_join.specs.NestTexts.{NestAction, assignment_text, text_of, test_of, texts_of, HoldsEntry}

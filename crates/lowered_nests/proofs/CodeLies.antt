@@ -11,7 +11,7 @@ use Rattle.program_code.specs.ExpressionCode.{index_flat, index_flats}
 use Rattle.lowered_expressions.specs.WellFormed.{IsSubscript, AreSubscripts}
 use Rattle.lowered_expressions.proofs.Terms.{total}
 use Rattle.program_code.specs.NestInstructions.{NoText, AndText, AndIf, AndLoop}
-use Rattle.nest_texts.specs.NestBodies.{AreSafe, ArmsAreSafe, CantFault}
+use Rattle.nest_join.specs.NestBodies.{AreSafe, ArmsAreSafe, CantFault}
 use Rattle.nest_join.specs.NestNames.{NestNames}
 use Rattle.nest_join.specs.CodedBlocks.{IsCodedBlock, IsCodedStatement, AreCodedArms, CodedBody, CodedArms, coded, coded_in, coded_arms, else_arm}
 

@@ -6,7 +6,7 @@ use Rattle.lowered_expressions.specs.WellFormed.{IsSubscript, AreSubscripts, IsI
 use Rattle.nest_items.specs.Naming.{TermBelow, AreNaming, BlockBelow, StatementBelow, ArmsBelow}
 use Rattle.nest_machine.specs.Body.{count_body, count_arms, body_slots, arms_slots}
 use Rattle.program_code.specs.NestInstructions.{NestBody, NoText, AndText, AndIf, AndLoop, NestArms, NoArm as NoArmText, AndArm, count_nest, count_nest_arms, slots_of_nest, slots_of_arms}
-use Rattle.nest_texts.specs.NestBodies.{body_of, arms_of}
+use Rattle.nest_join.specs.NestBodies.{body_of, arms_of}
 use Rattle.nest_items.specs.NestForm.{TextsKeep, TextKeeps, ArmsTextsKeep}
 use Rattle.lowered_nests.proofs.CodedBody.{plain-form}
 

@@ -21,7 +21,7 @@ use Rattle.nest_items.proofs.Storing.{if_so, if_not, by_cases}
 use Rattle.nest_machine.specs.Trace.{Data}
 use Rattle.nest_machine.specs.Entries.{Entry, at_zero, final_entries, nest_entries, NotMade}
 use Rattle.nest_machine.specs.PlacedEntry.{IsPlacedMemory}
-use Rattle.nest_texts.specs.NestBodies.{nest_layout}
+use Rattle.nest_join.specs.NestBodies.{nest_layout}
 use Rattle.statement_trail.specs.NestParts.{index_in}
 use Rattle.nest_join.specs.NestNames.{NestNames}
 use Rattle.program_code.specs.Places.{AreScalars, place_by, final_by}

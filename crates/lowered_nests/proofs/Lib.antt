@@ -31,4 +31,4 @@ mod IndexCode
 mod NestPieces
 pub mod NestGoes
 pub use Rattle.nest_join.proofs.Names as JoinedNames
-pub use Rattle.nest_texts.proofs.Counting
+pub use Rattle.nest_join.proofs.Counting

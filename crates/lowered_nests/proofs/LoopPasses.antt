@@ -17,10 +17,10 @@ use Rattle.nest_machine.specs.Body.{Bounds}
 use Rattle.nest_machine.specs.Counting.{Counting, trips_at, entering}
 use Rattle.nest_machine.specs.Slots.{SameSlots, headed, entered, next_index, advanced, trip_slots, first_trip, left_slots}
 use Rattle.nest_machine.proofs.Slots.{left-over}
-use Rattle.nest_texts.specs.NestLoops.{counting_at}
+use Rattle.nest_join.specs.NestLoops.{counting_at}
 use Rattle.program_code.specs.NestInstructions.{FlatBounds, tail_instructions, loop_instructions}
-use Rattle.nest_texts.specs.NestBodies.{CantFault, bounds_of}
-use Rattle.nest_texts.proofs.Counting.{is-counting}
+use Rattle.nest_join.specs.NestBodies.{CantFault, bounds_of}
+use Rattle.nest_join.proofs.Counting.{is-counting}
 use Rattle.lowered_nests.proofs.Passing.{Passes, stands, passes-on, passes-last, passes-at, passes-one, passes-set}
 
 pub loop-length : (line : ℕ) (bounds : FlatBounds) (b pc : ℕ) (body : List Instruction) → length (loop_instructions line bounds b pc body) ≡ 5 + length body + 5

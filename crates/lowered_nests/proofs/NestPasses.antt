@@ -39,10 +39,10 @@ use Rattle.nest_machine.specs.Body.{body_slots, arms_slots}
 use Rattle.nest_machine.specs.Counting.{Counting, trips_at}
 use Rattle.nest_machine.specs.Slots.{SameSlots, headed, first_trip, trip_slots, left_slots, slots_after, slots_after_arms}
 use Rattle.nest_machine.proofs.Slots.{same-on, same-headed, same-first, same-trip, same-left, same-again, same-advanced, same-after}
-use Rattle.nest_texts.specs.NestLoops.{counting_at}
+use Rattle.nest_join.specs.NestLoops.{counting_at}
 use Rattle.program_code.specs.NestInstructions as forms
 use Rattle.program_code.specs.NestInstructions.{FlatBounds, count_nest, count_nest_arms, whens_of, assigning, testing, setting_else, setting_mark, tail_instructions, mark_instructions, text_instructions, test_instruction, loop_instructions, body_instructions, arms_instructions}
-use Rattle.nest_texts.specs.NestBodies.{bounds_of, body_of, arms_of, CantFault}
+use Rattle.nest_join.specs.NestBodies.{bounds_of, body_of, arms_of, CantFault}
 use Rattle.nest_join.specs.NestNames.{NestNames, indices_of, index_of, IsFixedHere, IsTextTerm}
 use Rattle.nest_join.specs.NestTexts.{NestAction, NestCondition, text_of, test_of, HoldsEntry}
 use Rattle.nest_join.specs.CodedBlocks.{IsBoundName, IsCodedLoop, IsCodedBlock, IsCodedStatement, AreCodedArms, CodedBody, CodedArms, loop_bounds, else_arm, coded, coded_in, coded_arms}

@@ -28,8 +28,8 @@ use Rattle.nest_machine.specs.Slots.{SameSlots, slots_after}
 use Rattle.nest_machine.specs.Stands as places
 use Rattle.nest_machine.specs.Stands.{StaysQuiet}
 use Rattle.nest_machine.proofs.Slots.{same-refl}
-use Rattle.nest_texts.specs.NestLoops.{counting_at}
-use Rattle.nest_texts.specs.NestBodies.{body_of}
+use Rattle.nest_join.specs.NestLoops.{counting_at}
+use Rattle.nest_join.specs.NestBodies.{body_of}
 use Rattle.program_code.specs.NestInstructions.{count_nest, body_instructions, nest_instructions, finals_makes, conditions_makes, finals_instructions}
 use Rattle.nest_join.specs.NestNames.{NestNames}
 use Rattle.nest_join.specs.NestTexts.{text_of, test_of, HoldsEntry}

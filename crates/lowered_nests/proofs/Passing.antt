@@ -14,7 +14,7 @@ use Rattle.node_code.specs.Instructions.{Instruction, NewMapping, Set}
 use Rattle.code_meaning.specs.Instructions.{ArrayTable, set_result, meaning_of}
 use Rattle.lowered_expressions.specs.Passed.{note, note_at, passed, IsTrail}
 use Rattle.lowered_expressions.proofs.Reach.{steps-more, entries-more}
-use Rattle.nest_texts.specs.NestBodies.{CantFault}
+use Rattle.nest_join.specs.NestBodies.{CantFault}
 
 -- what of the machine has no say in where it goes
 pub record Rest : Type 0 where

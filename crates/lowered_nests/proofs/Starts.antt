@@ -34,8 +34,8 @@ use Rattle.nest_machine.specs.Entries.{nest_entries}
 use Rattle.nest_machine.specs.PlacedEntry.{IsPlacedMemory}
 use Rattle.nest_machine.proofs.Slots.{same-refl}
 use Rattle.nest_machine.proofs.Counts as counts
-use Rattle.nest_texts.specs.NestLoops.{counting_at}
-use Rattle.nest_texts.specs.NestBodies.{nest_layout}
+use Rattle.nest_join.specs.NestLoops.{counting_at}
+use Rattle.nest_join.specs.NestBodies.{nest_layout}
 use Rattle.program_code.specs.NestInstructions.{slots_of_nest}
 use Rattle.nest_join.specs.NestNames.{NestNames}
 use Rattle.nest_join.specs.NestTexts.{text_of, test_of, texts_of, action_at, condition_at}

@@ -22,8 +22,8 @@ use Rattle.nest_items.proofs.Storing.{state-arrays, state-scalars, by_cases}
 use Rattle.nest_machine.specs.Body.{count_body}
 use Rattle.nest_machine.specs.Trace.{Data}
 use Rattle.nest_machine.specs.Finals.{NotAmong}
-use Rattle.nest_texts.specs.NestLoops.{counting_at}
-use Rattle.nest_texts.specs.NestBodies.{nest_layout}
+use Rattle.nest_join.specs.NestLoops.{counting_at}
+use Rattle.nest_join.specs.NestBodies.{nest_layout}
 use Rattle.program_code.specs.NestInstructions.{nest_instructions}
 use Rattle.nest_join.specs.NestNames.{NestNames}
 use Rattle.nest_join.specs.NestTexts.{texts_of}

@@ -21,7 +21,7 @@ use Rattle.code_meaning.specs.Instructions.{ArrayTable, meaning_of}
 use Rattle.nest_machine.specs.Stands as stands
 use Rattle.nest_machine.specs.Finals.{NotAmong}
 use Rattle.program_code.specs.NestInstructions.{nest_instructions}
-use Rattle.nest_texts.proofs.Codes.{nest-means}
+use Rattle.nest_join.proofs.Codes.{nest-means}
 use Rattle.node_code.specs.Forms.{Sub}
 use Rattle.nest_join.specs.NestNames.{NestNames}
 use Rattle.nest_join.specs.NestTexts.{text_of, test_of}

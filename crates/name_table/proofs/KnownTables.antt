@@ -6,24 +6,24 @@ use Rattle.hpf_base.specs.FirstBreach.{Among}
 use Rattle.hpf_base.specs.Refusal.{NoBreach}
 use Rattle.hpf_base.specs.declared.refusal.Reason.{Reason}
 use Rattle.hpf_base.specs.declared.refusal.Refusal.{Refusal}
-use Rattle.statement_walk.specs.Expression.{Expression}
-use Rattle.statement_walk.specs.Directive.{Bound, Entity, Template as TemplateDirective, Processors}
-use Rattle.statement_walk.specs.MainProgram.{NamedConstant, Declared, ImplicitNone, Integer, Parameter, Directed, Declaration, MainProgram}
-use Rattle.statement_walk.specs.Dim.{Dim}
-use Rattle.statement_walk.specs.Symbol.{Symbol}
-use Rattle.statement_walk.specs.Symbol.TheVariants.{Uninitialized, Initialized, Constant, Array, Template, Arrangement}
-use Rattle.statement_walk.specs.Context.TheVariants.{Statement}
-use Rattle.statement_walk.specs.TypeAndRank.{TypeAndRank}
-use Rattle.statement_walk.specs.Constants.{value}
-use Rattle.statement_walk.specs.Symbols.{Name, SymbolTable, find, added, changed, is_uninitialized, satisfies}
-use Rattle.statement_walk.specs.Types.{if_typed, is_integer_scalar, type_and_rank}
+use Rattle.syntax_tree.specs.Expression.{Expression}
+use Rattle.syntax_tree.specs.Directive.{Bound, Entity, Template as TemplateDirective, Processors}
+use Rattle.syntax_tree.specs.MainProgram.{NamedConstant, Declared, ImplicitNone, Integer, Parameter, Directed, Declaration, MainProgram}
+use Rattle.expression_rules.specs.declared.dims.Dim.{Dim}
+use Rattle.expression_rules.specs.declared.symbols.Symbol.{Symbol}
+use Rattle.expression_rules.specs.declared.symbols.Symbol.TheVariants.{Uninitialized, Initialized, Constant, Array, Template, Arrangement}
+use Rattle.expression_rules.specs.declared.types.Context.TheVariants.{Statement}
+use Rattle.expression_rules.specs.declared.types.TypeAndRank.{TypeAndRank}
+use Rattle.expression_rules.specs.Constants.{value}
+use Rattle.expression_rules.specs.Symbols.{Name, SymbolTable, find, added, changed, is_uninitialized, satisfies}
+use Rattle.expression_rules.specs.Types.{if_typed, is_integer_scalar, type_and_rank}
 use Rattle.declarations.specs.Declarations.{Item, DimensionAttribute, TypedEntity, Definition, TemplateEntity, ArrangementEntity, PlacedItem, after, after_all, bounds_of, dims, is_past_limits, items, items_of, number, number_or, own_or, start_of, symbol_of, symbol_table, with_dim}
 use Rattle.name_table.specs.KnownSymbols.{AllAreKnown, is_known}
 use Rattle.name_table.specs.NameRules.{name_breaches}
 use Rattle.declarations.specs.DeclarationRules.{constants_of, is_invalid, item_breaches, item_reasons, past_limits}
 use Rattle.declarations.specs.Reasons.{at, when}
 use Rattle.name_table.specs.Places.{IntegerScalar, meets, place}
-use Rattle.statement_walk.specs.Inner.{bound_expressions, present}
+use Rattle.expression_rules.specs.Inner.{bound_expressions, present}
 use Rattle.name_table.specs.RankRules.{declaration_breaches_at, declaration_meets, rank_breaches, type_expressions, typed_expressions}
 use Rattle.name_table.proofs.KnownValues.{IsRight, Kept, has_number}
 

@@ -7,18 +7,18 @@ use Rattle.op_tables.specs.declared.op.Op.{Op}
 use Rattle.op_tables.specs.declared.op.Op.TheVariants as op
 use Rattle.op_tables.specs.Arguments.{takes, is_reduction, is_inquiry, is_processor_count}
 use Rattle.op_tables.specs.Operators.{operator_value}
-use Rattle.statement_walk.specs.Expression.{Expression, Number, Truth, Name as Alone, Element, Call, Unary, Binary, Closed, Part, One, Parts, End, More}
-use Rattle.statement_walk.specs.Dim.{Dim}
-use Rattle.statement_walk.specs.Evaluated.{Evaluated}
-use Rattle.statement_walk.specs.Evaluated.TheVariants.{Invalid, Unknown, Known}
-use Rattle.statement_walk.specs.Symbol.{Symbol}
-use Rattle.statement_walk.specs.Symbol.TheVariants.{Initialized, Constant, Array}
-use Rattle.statement_walk.specs.Context.TheVariants.{Statement}
-use Rattle.statement_walk.specs.DataType.{DataType}
-use Rattle.statement_walk.specs.TypeAndRank.{TypeAndRank}
-use Rattle.statement_walk.specs.Constants.{at_dimension, bound_of, called_value, elemental_value, inquired, item_or, named_first, numbered, of_array, operated, part_value, unless_zero, value, value_of_symbol, values, values_after, with_more}
-use Rattle.statement_walk.specs.Symbols.{Name, SymbolTable, find, is_array, is_uninitialized, rank_of, satisfies}
-use Rattle.statement_walk.specs.Types.{are_dimensions, are_inquired, called_type, common, conforming, count_of, elemental, inquired_from, integer_scalar_if, is_dimension, is_inquired, is_of_array, operand_type, rank_in, reduction, of_type, result_type, type_and_rank, types_and_ranks}
+use Rattle.syntax_tree.specs.Expression.{Expression, Number, Truth, Name as Alone, Element, Call, Unary, Binary, Closed, Part, One, Parts, End, More}
+use Rattle.expression_rules.specs.declared.dims.Dim.{Dim}
+use Rattle.expression_rules.specs.declared.evaluated.Evaluated.{Evaluated}
+use Rattle.expression_rules.specs.declared.evaluated.Evaluated.TheVariants.{Invalid, Unknown, Known}
+use Rattle.expression_rules.specs.declared.symbols.Symbol.{Symbol}
+use Rattle.expression_rules.specs.declared.symbols.Symbol.TheVariants.{Initialized, Constant, Array}
+use Rattle.expression_rules.specs.declared.types.Context.TheVariants.{Statement}
+use Rattle.expression_rules.specs.declared.types.DataType.{DataType}
+use Rattle.expression_rules.specs.declared.types.TypeAndRank.{TypeAndRank}
+use Rattle.expression_rules.specs.Constants.{at_dimension, bound_of, called_value, elemental_value, inquired, item_or, named_first, numbered, of_array, operated, part_value, unless_zero, value, value_of_symbol, values, values_after, with_more}
+use Rattle.expression_rules.specs.Symbols.{Name, SymbolTable, find, is_array, is_uninitialized, rank_of, satisfies}
+use Rattle.expression_rules.specs.Types.{are_dimensions, are_inquired, called_type, common, conforming, count_of, elemental, inquired_from, integer_scalar_if, is_dimension, is_inquired, is_of_array, operand_type, rank_in, reduction, of_type, result_type, type_and_rank, types_and_ranks}
 use Rattle.declarations.specs.Declarations.{if_known, number}
 use Rattle.declarations.specs.DeclarationRules.{is_invalid}
 

@@ -11,4 +11,4 @@ mod Scalars
 pub mod Tests
 pub mod TypedOperands
 pub mod TableItems
-pub use Rattle.statement_walk.proofs.Lists
+pub use Rattle.expression_rules.proofs.Lists

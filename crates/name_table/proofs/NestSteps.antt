@@ -5,18 +5,18 @@ use Rattle.std.specs.List.{flat_map}
 use Rattle.std.proofs.lemmas.List.{append-nil}
 use Rattle.hpf_base.specs.declared.refusal.Refusal.{Refusal}
 use Rattle.hpf_base.specs.FirstBreach.{earlier, least}
-use Rattle.statement_walk.specs.Stmt.{Stmt}
-use Rattle.statement_walk.specs.Mark.{Mark}
-use Rattle.statement_walk.specs.Arm.{Arm as HeldArm, out-Arm}
-use Rattle.statement_walk.specs.DoLoop.{DoLoop, out-DoLoop}
-use Rattle.statement_walk.specs.StatementKind as StatementKind
-use Rattle.statement_walk.specs.StatementKind.TheViews.{is-struct-Arm}
-use Rattle.statement_walk.specs.StatementKind.TheBlock.{hidden-the_row-Arm-0}
-use Rattle.statement_walk.specs.Statement.{Block, Done, Then, Statement, Do, arms, arms_of, block_of, do_construct, independent, statement}
-use Rattle.statement_walk.proofs.Rows.{do_parts, arms_vec, block_vec}
+use Rattle.syntax_tree.specs.declared.stmt.Stmt.{Stmt}
+use Rattle.syntax_tree.specs.declared.stmt.Mark.{Mark}
+use Rattle.syntax_tree.specs.declared.stmt.Arm.{Arm as HeldArm, out-Arm}
+use Rattle.syntax_tree.specs.declared.stmt.DoLoop.{DoLoop, out-DoLoop}
+use Rattle.syntax_tree.specs.declared.stmt.StatementKind as StatementKind
+use Rattle.syntax_tree.specs.declared.stmt.StatementKind.TheViews.{is-struct-Arm}
+use Rattle.syntax_tree.specs.declared.stmt.StatementKind.TheBlock.{hidden-the_row-Arm-0}
+use Rattle.syntax_tree.specs.Statement.{Block, Done, Then, Statement, Do, arms, arms_of, block_of, do_construct, independent, statement}
+use Rattle.syntax_tree.proofs.Rows.{do_parts, arms_vec, block_vec}
 use Rattle.name_table.specs.NameRules.{nest_breaches}
 use Rattle.statement_walk.specs.Nests.{Nest, arm_nests, loop, nest_in, nests, statement_nests}
-use Rattle.statement_walk.proofs.Turns.{least_both}
+use Rattle.expression_rules.proofs.Turns.{least_both}
 use Rattle.statement_walk.proofs.WalkSteps.{axis_in}
 
 pub if_nests : (line : ℕ) (k : StatementKind.StatementKind) (as' : Vec HeldArm Global) (rest : Option (Vec Stmt Global)) (v : Vec Stmt Global) (glued : Bool) → k ≡ StatementKind.If as' rest glued →

@@ -2,10 +2,10 @@
 use Rattle.std.proofs.Common.{◌≡◌, Bool, List, [], ◌∷◌, ◌++◌, Option, map, refl, ap, ◌∙◌}
 use Rattle.std.specs.Prelude.{◌&&◌}
 use Rattle.std.specs.List.{list_all}
-use Rattle.statement_walk.specs.Expression.{Expression}
-use Rattle.statement_walk.proofs.Folds.{all_append}
+use Rattle.syntax_tree.specs.Expression.{Expression}
+use Rattle.expression_rules.proofs.Folds.{all_append}
 use Rattle.name_table.specs.Places.{Requirement, IntegerScalar, LogicalScalar, place, integer_scalars}
-use Rattle.statement_walk.specs.Inner.{present}
+use Rattle.expression_rules.specs.Inner.{present}
 
 pub same_expressions : (r : Requirement) (es : List Expression) → map (λ p. p.expression) (map (place r) es) ≡ es
 same_expressions r [] = refl

@@ -3,7 +3,7 @@ use Rattle.std.proofs.Common.{◌≡◌, List, ◌++◌, Option, Some, None, sym
 use Rattle.hpf_base.specs.declared.refusal.Refusal.{Refusal}
 use Rattle.hpf_base.specs.FirstBreach.{Among, IsFirstOrNone, earlier, least}
 use Rattle.hpf_base.proofs.FirstBreaches.{earlier_assoc, least_append, least_first}
-use Rattle.statement_walk.specs.MainProgram.{MainProgram}
+use Rattle.syntax_tree.specs.MainProgram.{MainProgram}
 use Rattle.name_table.specs.NameRules.{name_breaches}
 use Rattle.name_table.specs.RankRules.{rank_breaches}
 use Rattle.name_table.specs.Resolved.{IsRefusedOrNone, by_names, by_ranks}

@@ -5,7 +5,7 @@ use Rattle.std.specs.List.{list_any}
 use Rattle.std.proofs.lemmas.Cmp.{nat_list_eq_equiv}
 use Rattle.std.proofs.lemmas.List.Folds.{list_any-append}
 use Rattle.indexmap.specs.IndexSet.{insert_key}
-use Rattle.statement_walk.specs.Symbols.{Name, is_among}
+use Rattle.expression_rules.specs.Symbols.{Name, is_among}
 use Rattle.name_table.specs.Uses.{repeats}
 
 -- a name of the list stands before it, or among these

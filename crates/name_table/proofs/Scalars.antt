@@ -2,12 +2,12 @@
 use Rattle.std.proofs.Common.{◌≡◌, List, [], ◌∷◌, ◌++◌, Option, map, refl, ap, ◌∙◌}
 use Rattle.std.specs.Prelude.{◌&&◌}
 use Rattle.std.specs.List.{list_all}
-use Rattle.statement_walk.specs.Expression.{Expression}
-use Rattle.statement_walk.specs.Symbols.{SymbolTable}
-use Rattle.statement_walk.specs.Context.{Context}
-use Rattle.statement_walk.proofs.Folds.{all_append}
+use Rattle.syntax_tree.specs.Expression.{Expression}
+use Rattle.expression_rules.specs.Symbols.{SymbolTable}
+use Rattle.expression_rules.specs.declared.types.Context.{Context}
+use Rattle.expression_rules.proofs.Folds.{all_append}
 use Rattle.name_table.specs.Places.{Requirement, IntegerScalar, LogicalScalar, place, integer_scalars, meets, all_meet}
-use Rattle.statement_walk.specs.Inner.{present}
+use Rattle.expression_rules.specs.Inner.{present}
 
 -- each at a place of one kind
 pub all_alike : (c : Context) (t : SymbolTable) (r : Requirement) (es : List Expression) → all_meet c t (map (place r) es) ≡ list_all (meets c t r) es

@@ -2,11 +2,11 @@
 use Rattle.std.proofs.Common.{◌≡◌, Bool, true, false, bytes_eq, List, [], ◌∷◌, length, Option, Some, None, refl}
 use Rattle.std.specs.Prelude.{ℤ, if◌then◌else◌}
 use Rattle.std.specs.List.{AllByRecursion}
-use Rattle.statement_walk.specs.Directive.{Bound}
-use Rattle.statement_walk.specs.Expression.{Expression}
-use Rattle.statement_walk.specs.Symbol.{Symbol}
-use Rattle.statement_walk.specs.Symbol.TheVariants.{Constant, Array, Template, Arrangement}
-use Rattle.statement_walk.specs.Symbols.{Name, SymbolTable, added, changed, find, is_array, is_declared, is_uninitialized, satisfies}
+use Rattle.syntax_tree.specs.Directive.{Bound}
+use Rattle.syntax_tree.specs.Expression.{Expression}
+use Rattle.expression_rules.specs.declared.symbols.Symbol.{Symbol}
+use Rattle.expression_rules.specs.declared.symbols.Symbol.TheVariants.{Constant, Array, Template, Arrangement}
+use Rattle.expression_rules.specs.Symbols.{Name, SymbolTable, added, changed, find, is_array, is_declared, is_uninitialized, satisfies}
 use Rattle.declarations.specs.Declarations.{Item, DimensionAttribute, TypedEntity, Definition, TemplateEntity, ArrangementEntity, PlacedItem, after, after_all, known_dims, number, rank_in_text, start_of, symbol_of}
 
 abbrev pub AllHold : (Symbol → Type 0) → SymbolTable → Type 0

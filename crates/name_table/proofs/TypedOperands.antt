@@ -2,9 +2,9 @@
 use Rattle.std.proofs.Common.{◌≡◌, ℕ, Bool, true, List, [], ◌∷◌, Option, Some, None, refl}
 use Rattle.std.specs.List.{AllByRecursion}
 use Rattle.op_tables.specs.declared.op.Op.{Op}
-use Rattle.statement_walk.specs.DataType.{DataType}
-use Rattle.statement_walk.specs.TypeAndRank.{TypeAndRank}
-use Rattle.statement_walk.specs.Types.{common, conforming, elemental, if_typed, of_type, operand_type, rank_in, result_type}
+use Rattle.expression_rules.specs.declared.types.DataType.{DataType}
+use Rattle.expression_rules.specs.declared.types.TypeAndRank.{TypeAndRank}
+use Rattle.expression_rules.specs.Types.{common, conforming, elemental, if_typed, of_type, operand_type, rank_in, result_type}
 use Rattle.name_table.proofs.Tests.{HasValue, no_value}
 
 pub typed_value : (test : TypeAndRank → Bool) (o : Option TypeAndRank) → if_typed test o ≡ true → HasValue o

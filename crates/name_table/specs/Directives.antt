@@ -2,10 +2,10 @@
 -- The names and the expressions in mapping directives (HPF 2.0, 3).
 use Rattle.std.specs.Prelude.{List, [], ◌∷◌, ◌++◌, Option, Some, None}
 use Rattle.std.specs.List.{flat_map}
-use Rattle.statement_walk.specs.Expression.{Expression, Part, One, Range, Glued, Maybe, Absent, Present}
-use Rattle.statement_walk.specs.Directive.{Entity, Directive, Processors, Template, Dynamic, Distribute, Align, Distribution, Alignment, Source, Dummy, Target, Placed, Replicated}
-use Rattle.statement_walk.specs.Symbols.{Name}
-use Rattle.statement_walk.specs.Inner.{present, bound_expressions, format_expressions}
+use Rattle.syntax_tree.specs.Expression.{Expression, Part, One, Range, Glued, Maybe, Absent, Present}
+use Rattle.syntax_tree.specs.Directive.{Entity, Directive, Processors, Template, Dynamic, Distribute, Align, Distribution, Alignment, Source, Dummy, Target, Placed, Replicated}
+use Rattle.expression_rules.specs.Symbols.{Name}
+use Rattle.expression_rules.specs.Inner.{present, bound_expressions, format_expressions}
 use Rattle.declarations.specs.Declarations.{bounds_of}
 
 -- the names in its lists

@@ -1,11 +1,11 @@
 -- Of the claim.
 -- What a program declares (Fortran 95, 5; HPF 2.0, 3.6 and 3.7): its names in the order of their declarations, each with what it is.
 use Rattle.std.specs.Prelude.{ℤ, pos, List, [], map, bytes_eq, position, slice_get, Option, Some, None, option_map, option_and_then}
-use Rattle.statement_walk.specs.MainProgram.{MainProgram}
-use Rattle.statement_walk.specs.Symbols.{Name}
-use Rattle.statement_walk.specs.Dim.{Dim}
-use Rattle.statement_walk.specs.Symbol.{Symbol}
-use Rattle.statement_walk.specs.Symbol.TheVariants as symbol
+use Rattle.syntax_tree.specs.MainProgram.{MainProgram}
+use Rattle.expression_rules.specs.Symbols.{Name}
+use Rattle.expression_rules.specs.declared.dims.Dim.{Dim}
+use Rattle.expression_rules.specs.declared.symbols.Symbol.{Symbol}
+use Rattle.expression_rules.specs.declared.symbols.Symbol.TheVariants as symbol
 use Rattle.name_table.specs.declared.names.Entry.{Entry}
 use Rattle.name_table.specs.declared.names.What.{What}
 use Rattle.name_table.specs.declared.names.What.TheVariants.{Scalar, Constant, Array, Template, Arrangement}

@@ -4,9 +4,9 @@ use Rattle.std.specs.Prelude.{◌≡◌, Bool, true, ◌&&◌, is_some}
 use Rattle.std.specs.List.{list_all}
 use Rattle.hpf_base.specs.FirstBreach.{Among}
 use Rattle.hpf_base.specs.Refusal.{NoBreach}
-use Rattle.statement_walk.specs.MainProgram.{MainProgram}
-use Rattle.statement_walk.specs.Symbol.{Symbol}
-use Rattle.statement_walk.specs.Symbol.TheVariants.{Initialized, Constant, Array}
+use Rattle.syntax_tree.specs.MainProgram.{MainProgram}
+use Rattle.expression_rules.specs.declared.symbols.Symbol.{Symbol}
+use Rattle.expression_rules.specs.declared.symbols.Symbol.TheVariants.{Initialized, Constant, Array}
 use Rattle.declarations.specs.Declarations.{symbol_table}
 use Rattle.name_table.specs.NameRules.{name_breaches}
 use Rattle.name_table.specs.RankRules.{rank_breaches}

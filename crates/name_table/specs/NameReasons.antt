@@ -5,8 +5,8 @@ use Rattle.std.specs.List.{list_all}
 use Rattle.name_table.specs.declared.limits.TheConstants.{MAX_INDICES}
 use Rattle.hpf_base.specs.declared.refusal.Reason.{Reason}
 use Rattle.hpf_base.specs.declared.refusal.Reason.TheVariants as reason
-use Rattle.statement_walk.specs.Symbols.{Name, SymbolTable}
-use Rattle.statement_walk.specs.Operands.{are_operands}
+use Rattle.expression_rules.specs.Symbols.{Name, SymbolTable}
+use Rattle.expression_rules.specs.Operands.{are_operands}
 use Rattle.statement_walk.specs.Head.{Head}
 use Rattle.name_table.specs.NameRules.{expressions_of, header_names, own_uses}
 use Rattle.name_table.specs.Uses.{allows, repeats}

@@ -7,11 +7,11 @@ use Rattle.name_table.specs.declared.limits.TheConstants.{MAX_INDICES}
 use Rattle.hpf_base.specs.declared.refusal.Reason.{Reason}
 use Rattle.hpf_base.specs.declared.refusal.Reason.TheVariants as reason
 use Rattle.hpf_base.specs.declared.refusal.Refusal.{Refusal}
-use Rattle.statement_walk.specs.Expression.{Expression}
-use Rattle.statement_walk.specs.MainProgram.{Declared, Directed, Declaration, MainProgram}
-use Rattle.statement_walk.specs.Symbols.{Name, SymbolTable, with_dummies}
-use Rattle.statement_walk.specs.Operands.{are_operands}
-use Rattle.statement_walk.specs.Inner.{present}
+use Rattle.syntax_tree.specs.Expression.{Expression}
+use Rattle.syntax_tree.specs.MainProgram.{Declared, Directed, Declaration, MainProgram}
+use Rattle.expression_rules.specs.Symbols.{Name, SymbolTable, with_dummies}
+use Rattle.expression_rules.specs.Operands.{are_operands}
+use Rattle.expression_rules.specs.Inner.{present}
 use Rattle.statement_walk.specs.Head.{Head}
 use Rattle.statement_walk.specs.Head as head
 use Rattle.statement_walk.specs.Heads.{PlacedHead, indices_of, all_heads}

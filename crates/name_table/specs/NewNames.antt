@@ -2,7 +2,7 @@
 -- What private contracts see of names that are put together one after the other. No public clause cites this file.
 use Rattle.std.specs.Prelude.{◌≡◌, false, bytes_eq, List}
 use Rattle.std.specs.List.{list_any}
-use Rattle.statement_walk.specs.Symbols.{Name}
+use Rattle.expression_rules.specs.Symbols.{Name}
 use Rattle.name_table.specs.declared.names.Entry.{Entry}
 
 -- no entry has the name

@@ -3,15 +3,15 @@
 -- 8.1.2, 8.1.4 and 9.4.2).
 use Rattle.std.specs.Prelude.{Bool, true, false, ◌&&◌, ◌||◌, nat_eq, nat_le, is_some, List, [], ◌∷◌, ◌++◌, map}
 use Rattle.std.specs.List.{list_all, flat_map}
-use Rattle.statement_walk.specs.Expression.{Expression, Name, Element}
-use Rattle.statement_walk.specs.Statement.{designator}
-use Rattle.statement_walk.specs.Symbols.{SymbolTable}
-use Rattle.statement_walk.specs.Inner.{present, axis_expressions, item_expressions, format_expressions}
-use Rattle.statement_walk.specs.Context.{Context}
-use Rattle.statement_walk.specs.Context.TheVariants as context
-use Rattle.statement_walk.specs.DataType.TheVariants.{Integer, Logical}
-use Rattle.statement_walk.specs.TypeAndRank.{TypeAndRank}
-use Rattle.statement_walk.specs.Types.{same_type, is_integer_scalar, is_logical_scalar, if_typed, type_and_rank}
+use Rattle.syntax_tree.specs.Expression.{Expression, Name, Element}
+use Rattle.syntax_tree.specs.Statement.{designator}
+use Rattle.expression_rules.specs.Symbols.{SymbolTable}
+use Rattle.expression_rules.specs.Inner.{present, axis_expressions, item_expressions, format_expressions}
+use Rattle.expression_rules.specs.declared.types.Context.{Context}
+use Rattle.expression_rules.specs.declared.types.Context.TheVariants as context
+use Rattle.expression_rules.specs.declared.types.DataType.TheVariants.{Integer, Logical}
+use Rattle.expression_rules.specs.declared.types.TypeAndRank.{TypeAndRank}
+use Rattle.expression_rules.specs.Types.{same_type, is_integer_scalar, is_logical_scalar, if_typed, type_and_rank}
 use Rattle.statement_walk.specs.Head.{Head}
 use Rattle.statement_walk.specs.Head as head
 

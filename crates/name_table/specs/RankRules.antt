@@ -5,17 +5,17 @@ use Rattle.std.specs.Prelude.{Bool, true, not, List, ◌++◌, map}
 use Rattle.std.specs.List.{flat_map}
 use Rattle.hpf_base.specs.declared.refusal.Reason.TheVariants as reason
 use Rattle.hpf_base.specs.declared.refusal.Refusal.{Refusal}
-use Rattle.statement_walk.specs.Expression.{Expression}
-use Rattle.statement_walk.specs.Directive.{Entity}
-use Rattle.statement_walk.specs.MainProgram.{TypeDeclaration, Declared, ImplicitNone, Integer, Parameter, Directed, Declaration, MainProgram}
-use Rattle.statement_walk.specs.Symbols.{SymbolTable, with_dummies}
-use Rattle.statement_walk.specs.Context.TheVariants as context
+use Rattle.syntax_tree.specs.Expression.{Expression}
+use Rattle.syntax_tree.specs.Directive.{Entity}
+use Rattle.syntax_tree.specs.MainProgram.{TypeDeclaration, Declared, ImplicitNone, Integer, Parameter, Directed, Declaration, MainProgram}
+use Rattle.expression_rules.specs.Symbols.{SymbolTable, with_dummies}
+use Rattle.expression_rules.specs.declared.types.Context.TheVariants as context
 use Rattle.declarations.specs.Declarations.{bounds_of, symbol_table}
 use Rattle.name_table.specs.Directives.{directive_dummies, directive_expressions, entity_expressions}
 use Rattle.statement_walk.specs.Heads.{PlacedHead, all_heads}
 use Rattle.declarations.specs.Reasons.{at, when}
 use Rattle.name_table.specs.Places.{integer_scalars, places, context_of, all_meet}
-use Rattle.statement_walk.specs.Inner.{present, bound_expressions}
+use Rattle.expression_rules.specs.Inner.{present, bound_expressions}
 
 abbrev pub typed_expressions : Entity → List Expression
 typed_expressions e = entity_expressions e ++ present e.start

@@ -6,7 +6,7 @@ use Rattle.hpf_base.specs.Refusal.{IsFirstBreach, NoBreach}
 use Rattle.hpf_base.specs.declared.refusal.Refusal.{Refusal}
 use Rattle.hpf_base.specs.declared.refusal.StaticError.{StaticError}
 use Rattle.hpf_base.specs.declared.refusal.StaticError.TheVariants.{Refused, Memory}
-use Rattle.statement_walk.specs.MainProgram.{MainProgram}
+use Rattle.syntax_tree.specs.MainProgram.{MainProgram}
 use Rattle.name_table.specs.NameRules.{name_breaches}
 use Rattle.name_table.specs.RankRules.{rank_breaches}
 

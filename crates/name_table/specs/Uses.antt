@@ -2,7 +2,7 @@
 -- The names that statements and directives use, beside those in their expressions, and what each must stand for (Fortran 95, 7.5.1.1,
 -- 7.5.4.1 and 8.1.4; HPF 2.0, 3 and 5.1).
 use Rattle.std.specs.Prelude.{Bool, false, ◌&&◌, ◌||◌, not, List, [], ◌∷◌}
-use Rattle.statement_walk.specs.Symbols.{Name, SymbolTable, find, satisfies, is_among, is_declared, is_scalar, is_variable}
+use Rattle.expression_rules.specs.Symbols.{Name, SymbolTable, find, satisfies, is_among, is_declared, is_scalar, is_variable}
 
 -- a name as it is used
 pub data Use : Type 0 where

@@ -4,19 +4,18 @@
 ghost use Rattle.std.specs.Prelude.{◌≡◌, map, IfOk};
 ghost use Rattle.std.specs.List.{flat_map, list_all};
 ghost use Rattle.hpf_base.specs.FirstBreach.{least};
-ghost use Rattle.statement_walk.specs.Directive.{directive_of, entity};
-ghost use Rattle.statement_walk.specs.MainProgram.{Directed, declaration, declared_of, named_constant, type_declaration};
+ghost use Rattle.syntax_tree.specs.Directive.{directive_of, entity};
+ghost use Rattle.syntax_tree.specs.MainProgram.{Directed, declaration, declared_of, named_constant, type_declaration};
 ghost use Rattle.name_table.specs.RankRules.{declaration_breaches_at, declaration_meets, type_expressions, typed_expressions};
 
 use crate::dummies::dummies;
 use crate::expressions::{ExpressionTest, in_bounds_if_any, in_directive, in_option};
 use crate::integer_scalars::IntegerScalars;
 use crate::refused::refused_unless;
+use expression_rules::{Context, Scope, SymbolTable};
 use hpf_base::{Reason, Refusal, earlier};
-use statement_walk::{
-    ConstDef, Context, Decl, DeclKind, Directive, Entity, IntegerDecl, Scope, SymbolTable,
-};
 use std::alloc::{AllocError, Global};
+use syntax_tree::{ConstDef, Decl, DeclKind, Directive, Entity, IntegerDecl};
 
 /// The first breach of the rules of types and ranks in declarations and directives, where there is one. An `Err` is want of memory,
 /// here and below.
@@ -68,7 +67,7 @@ fn declaration_meets(
 
 /// Whether the expressions in INTEGER pass a test: the bounds after DIMENSION, and those of the entities. An `Err` is want of
 /// memory, here and below.
-#[tactic(auto, using(statement_walk::proofs::Folds::all_append))]
+#[tactic(auto, using(expression_rules::proofs::Folds::all_append))]
 fn in_types<T: ExpressionTest>(test: &T, types: &IntegerDecl) -> Result<bool, AllocError>
     ensures { IfOk result (λ b. b ≡ list_all (T.passes test.now) (type_expressions (type_declaration types.now))) }
 {
@@ -78,7 +77,7 @@ fn in_types<T: ExpressionTest>(test: &T, types: &IntegerDecl) -> Result<bool, Al
 }
 
 /// Whether the expressions in an entity of INTEGER pass a test: its bounds, and its initial value.
-#[tactic(auto, using(statement_walk::proofs::Folds::all_append))]
+#[tactic(auto, using(expression_rules::proofs::Folds::all_append))]
 fn in_entity<T: ExpressionTest>(test: &T, one: &Entity) -> Result<bool, AllocError>
     ensures { IfOk result (λ b. b ≡ list_all (T.passes test.now) (typed_expressions (entity one.now))) }
 {
@@ -88,7 +87,7 @@ fn in_entity<T: ExpressionTest>(test: &T, one: &Entity) -> Result<bool, AllocErr
 }
 
 /// Whether the expressions in all entities of INTEGER pass a test.
-#[tactic(auto, using(statement_walk::proofs::Folds::all_append))]
+#[tactic(auto, using(expression_rules::proofs::Folds::all_append))]
 fn in_entities<T: ExpressionTest>(test: &T, entities: &[Entity]) -> Result<bool, AllocError>
     ensures { IfOk result (λ b. b ≡ list_all (T.passes test.now) (flat_map typed_expressions (map entity entities.now))) }
 {

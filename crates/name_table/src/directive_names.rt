@@ -3,10 +3,10 @@
 ghost use Rattle.std.specs.Prelude.{◌≡◌, ◌&&◌, map, IfOk};
 ghost use Rattle.std.specs.List.{flat_map, list_all};
 ghost use Rattle.hpf_base.specs.FirstBreach.{least};
-ghost use Rattle.statement_walk.specs.Directive.{directive_of};
-ghost use Rattle.statement_walk.specs.MainProgram.{declaration};
-ghost use Rattle.statement_walk.specs.Operands.{are_operands};
-ghost use Rattle.statement_walk.specs.Symbols.{is_declared, with_dummies};
+ghost use Rattle.syntax_tree.specs.Directive.{directive_of};
+ghost use Rattle.syntax_tree.specs.MainProgram.{declaration};
+ghost use Rattle.expression_rules.specs.Operands.{are_operands};
+ghost use Rattle.expression_rules.specs.Symbols.{is_declared, with_dummies};
 ghost use Rattle.name_table.specs.Directives.{directive_dummies, directive_expressions, directive_names};
 ghost use Rattle.name_table.specs.NameRules.{directive_breaches_at};
 
@@ -15,9 +15,10 @@ use crate::expressions::in_directive;
 use crate::listed_names::{are_declared, are_mapped_declared, is_distribution_declared};
 use crate::operands::Operands;
 use crate::refused::refused_unless;
+use expression_rules::{Scope, SymbolTable};
 use hpf_base::{Reason, Refusal, earlier};
-use statement_walk::{Decl, DeclKind, Directive, Scope, SymbolTable};
 use std::alloc::{AllocError, Global};
+use syntax_tree::{Decl, DeclKind, Directive};
 
 /// The first breach of the rules of names in directives among the declarations, where there is one. An `Err` is want of memory.
 pub(crate) fn first_bad_directive(
@@ -70,7 +71,7 @@ fn names_stand(
 }
 
 /// Whether the names in the lists of a directive are declared.
-#[tactic(auto, using(statement_walk::proofs::Folds::all_append))]
+#[tactic(auto, using(expression_rules::proofs::Folds::all_append))]
 fn are_listed_declared(table: &SymbolTable, directive: &Directive) -> bool
     ensures { result ≡ list_all (λ x. is_declared x table.now) (directive_names (directive_of directive.now)) }
 {

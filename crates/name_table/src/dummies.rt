@@ -2,12 +2,12 @@
 
 ghost use Rattle.std.specs.Prelude.{◌≡◌, ◌++◌, map, IfOk, OnOk};
 ghost use Rattle.std.specs.List.{flat_map};
-ghost use Rattle.statement_walk.specs.Directive.{directive_of, source_of};
+ghost use Rattle.syntax_tree.specs.Directive.{directive_of, source_of};
 ghost use Rattle.name_table.specs.Directives.{directive_dummies, dummy_of};
 
 use hpf_base::Name;
-use statement_walk::{Directive, Source};
 use std::alloc::{AllocError, Global};
+use syntax_tree::{Directive, Source};
 
 /// The align dummies of a directive, in order; only ALIGN has any. An `Err` is want of memory.
 pub(crate) fn dummies(alloc: Global, directive: &Directive) -> Result<Vec<Name>, AllocError>

@@ -2,12 +2,12 @@
 
 ghost use Rattle.std.specs.Prelude.{◌≡◌, option_copied};
 ghost use Rattle.hpf_base.specs.FirstBreach.{least};
-ghost use Rattle.statement_walk.specs.MainProgram.{end_name_of, main_program};
+ghost use Rattle.syntax_tree.specs.MainProgram.{end_name_of, main_program};
 ghost use Rattle.name_table.specs.NameRules.{end_breaches, is_named};
 
 use crate::refused::refused_unless;
 use hpf_base::{Name, Reason, Refusal};
-use statement_walk::{EndForm, Tree};
+use syntax_tree::{EndForm, Tree};
 
 /// The breach of a name after END PROGRAM that isn't the program's. It takes no memory.
 pub(crate) fn bad_end_name(tree: &Tree) -> Option<Refusal>

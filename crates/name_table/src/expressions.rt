@@ -2,15 +2,15 @@
 
 ghost use Rattle.std.specs.Prelude.{◌≡◌, ◌∷◌, map, option_map, Bool, IfOk};
 ghost use Rattle.std.specs.List.{flat_map, list_all};
-ghost use Rattle.statement_walk.specs.Directive.{arrangement, bound, directive_of, format_of, target_of};
-ghost use Rattle.statement_walk.specs.Expression.{Expression, expression, subscript};
-ghost use Rattle.statement_walk.specs.Statement.{axis, item_of};
-ghost use Rattle.statement_walk.specs.Inner.{axis_expressions, bound_expressions, format_expressions, item_expressions, present};
+ghost use Rattle.syntax_tree.specs.Directive.{arrangement, bound, directive_of, format_of, target_of};
+ghost use Rattle.syntax_tree.specs.Expression.{Expression, expression, subscript};
+ghost use Rattle.syntax_tree.specs.Statement.{axis, item_of};
+ghost use Rattle.expression_rules.specs.Inner.{axis_expressions, bound_expressions, format_expressions, item_expressions, present};
 ghost use Rattle.declarations.specs.Declarations.{bounds_of};
 ghost use Rattle.name_table.specs.Directives.{directive_expressions, entity_expressions, part_expressions, target_expressions};
 
-use statement_walk::{Bound, Directive, Entity, Expr, Format, Header, Item, Subscript, Target};
 use std::alloc::AllocError;
+use syntax_tree::{Bound, Directive, Entity, Expr, Format, Header, Item, Subscript, Target};
 
 /// A test of expressions.
 pub(crate) trait ExpressionTest {
@@ -55,7 +55,7 @@ fn in_header<T: ExpressionTest>(test: &T, header: &Header) -> Result<bool, Alloc
 }
 
 /// Whether the expressions of all indices of a FORALL pass.
-#[tactic(auto, using(statement_walk::proofs::Folds::all_append))]
+#[tactic(auto, using(expression_rules::proofs::Folds::all_append))]
 pub(crate) fn in_headers<T: ExpressionTest>(
     test: &T,
     headers: &[Header],
@@ -81,7 +81,7 @@ fn in_item<T: ExpressionTest>(test: &T, item: &Item) -> Result<bool, AllocError>
 }
 
 /// Whether the expressions in all items of a PRINT pass.
-#[tactic(auto, using(statement_walk::proofs::Folds::all_append))]
+#[tactic(auto, using(expression_rules::proofs::Folds::all_append))]
 pub(crate) fn in_items<T: ExpressionTest>(test: &T, items: &[Item]) -> Result<bool, AllocError>
     ensures { IfOk result (λ b. b ≡ list_all (T.passes test.now) (flat_map item_expressions (map item_of items.now))) }
 {
@@ -117,7 +117,7 @@ fn in_list<T: ExpressionTest>(test: &T, list: &[Expr]) -> Result<bool, AllocErro
 }
 
 /// Whether the expressions in the formats of all dimensions pass.
-#[tactic(auto, using(statement_walk::proofs::Folds::all_append))]
+#[tactic(auto, using(expression_rules::proofs::Folds::all_append))]
 pub(crate) fn in_formats<T: ExpressionTest>(
     test: &T,
     formats: &[Format],
@@ -133,7 +133,7 @@ pub(crate) fn in_formats<T: ExpressionTest>(
 }
 
 /// Whether the bounds of a dimension pass.
-#[tactic(auto, using(statement_walk::proofs::Folds::all_append))]
+#[tactic(auto, using(expression_rules::proofs::Folds::all_append))]
 fn in_bound<T: ExpressionTest>(test: &T, dimension: &Bound) -> Result<bool, AllocError>
     ensures { IfOk result (λ b. b ≡ list_all (T.passes test.now) (bound_expressions (bound dimension.now))) }
 {
@@ -143,7 +143,7 @@ fn in_bound<T: ExpressionTest>(test: &T, dimension: &Bound) -> Result<bool, Allo
 }
 
 /// Whether the bounds of all dimensions pass.
-#[tactic(auto, using(statement_walk::proofs::Folds::all_append))]
+#[tactic(auto, using(expression_rules::proofs::Folds::all_append))]
 fn in_bounds<T: ExpressionTest>(test: &T, bounds: &[Bound]) -> Result<bool, AllocError>
     ensures { IfOk result (λ b. b ≡ list_all (T.passes test.now) (flat_map bound_expressions (map bound bounds.now))) }
 {
@@ -200,7 +200,7 @@ fn in_arrangement<T: ExpressionTest>(test: &T, entity: &Entity) -> Result<bool, 
 }
 
 /// Whether the bounds of all arrangements or templates of a directive pass.
-#[tactic(auto, using(statement_walk::proofs::Folds::all_append))]
+#[tactic(auto, using(expression_rules::proofs::Folds::all_append))]
 fn in_arrangements<T: ExpressionTest>(test: &T, entities: &[Entity]) -> Result<bool, AllocError>
     ensures { IfOk result (λ b. b ≡ list_all (T.passes test.now) (flat_map entity_expressions (map arrangement entities.now))) }
 {
@@ -223,7 +223,7 @@ fn in_target<T: ExpressionTest>(test: &T, target: &Target) -> Result<bool, Alloc
 }
 
 /// Whether the expressions in what stands for the dimensions of the target of ALIGN pass.
-#[tactic(auto, using(statement_walk::proofs::Folds::all_append))]
+#[tactic(auto, using(expression_rules::proofs::Folds::all_append))]
 fn in_targets<T: ExpressionTest>(test: &T, targets: &[Target]) -> Result<bool, AllocError>
     ensures { IfOk result (λ b. b ≡ list_all (T.passes test.now) (flat_map target_expressions (map target_of targets.now))) }
 {
@@ -236,7 +236,7 @@ fn in_targets<T: ExpressionTest>(test: &T, targets: &[Target]) -> Result<bool, A
 }
 
 /// Whether the expressions in a subscript or a triplet pass.
-#[tactic(auto, using(statement_walk::proofs::Folds::all_append_three))]
+#[tactic(auto, using(expression_rules::proofs::Folds::all_append_three))]
 fn in_part<T: ExpressionTest>(test: &T, part: &Subscript) -> Result<bool, AllocError>
     ensures { IfOk result (λ b. b ≡ list_all (T.passes test.now) (part_expressions (subscript part.now))) }
 {

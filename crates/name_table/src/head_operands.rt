@@ -3,12 +3,13 @@
 ghost use Rattle.std.specs.Prelude.{◌≡◌, IfOk};
 ghost use Rattle.std.specs.List.{list_all};
 ghost use Rattle.name_table.specs.NameRules.{expressions_of};
-ghost use Rattle.statement_walk.specs.Operands.{are_operands};
+ghost use Rattle.expression_rules.specs.Operands.{are_operands};
 ghost use Rattle.statement_walk.specs.Views.{head_of};
 
 use crate::expressions::{in_axis, in_formats, in_headers, in_items, in_option};
 use crate::operands::Operands;
-use statement_walk::{Head, Scope, are_operands, is_operand_reference};
+use expression_rules::{Scope, are_operands, is_operand_reference};
+use statement_walk::Head;
 use std::alloc::AllocError;
 
 /// Whether each name in the expressions of a statement stands for a number or for numbers. An `Err` is want of memory.

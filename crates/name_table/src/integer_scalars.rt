@@ -1,8 +1,9 @@
 //! The test of expressions that must be integer scalars.
 
 use crate::expressions::ExpressionTest;
-use statement_walk::{Context, Expr, Scope, is_integer_scalar, type_and_rank};
+use expression_rules::{Context, Scope, is_integer_scalar, type_and_rank};
 use std::alloc::{AllocError, Global};
+use syntax_tree::Expr;
 
 /// Whether expressions are integer scalars in a context, where these names may be used.
 #[derive(Clone, Copy)]

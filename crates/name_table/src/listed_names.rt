@@ -2,13 +2,14 @@
 
 ghost use Rattle.std.specs.Prelude.{◌≡◌};
 ghost use Rattle.std.specs.List.{list_all};
-ghost use Rattle.statement_walk.specs.Directive.{distribution, names_of};
-ghost use Rattle.statement_walk.specs.Symbols.{is_declared};
+ghost use Rattle.syntax_tree.specs.Directive.{distribution, names_of};
+ghost use Rattle.expression_rules.specs.Symbols.{is_declared};
 ghost use Rattle.name_table.specs.Directives.{distribution_names};
-ghost use Rattle.statement_walk.specs.Inner.{present};
+ghost use Rattle.expression_rules.specs.Inner.{present};
 
+use expression_rules::SymbolTable;
 use hpf_base::Name;
-use statement_walk::{DistSpec, SymbolTable};
+use syntax_tree::DistSpec;
 
 /// Whether the names are declared.
 pub(crate) fn are_declared(table: &SymbolTable, names: &[Name]) -> bool
@@ -43,7 +44,7 @@ pub(crate) fn are_mapped_declared(table: &SymbolTable, colons: bool, names: &[Na
 }
 
 /// Whether the names of DISTRIBUTE or REDISTRIBUTE are declared: what it maps, and the name after ONTO where there is one.
-#[tactic(auto, using(statement_walk::proofs::Folds::all_append))]
+#[tactic(auto, using(expression_rules::proofs::Folds::all_append))]
 pub(crate) fn is_distribution_declared(table: &SymbolTable, spec: &DistSpec) -> bool
     ensures { result ≡ list_all (λ x. is_declared x table.now) (distribution_names (distribution spec.now)) }
 {

@@ -2,12 +2,12 @@
 
 ghost use Rattle.std.specs.Prelude.{◌≡◌, length, map, nat_lt, option_copied, IfOk};
 ghost use Rattle.std.specs.List.{flat_map, list_all};
-ghost use Rattle.statement_walk.specs.Statement.{axis, block_of};
+ghost use Rattle.syntax_tree.specs.Statement.{axis, block_of};
 ghost use Rattle.name_table.specs.NameRules.{header_names, name_breaches_at, own_uses};
 ghost use Rattle.statement_walk.specs.Heads.{all_heads, indices_of};
 ghost use Rattle.hpf_base.specs.FirstBreach.{least};
 ghost use Rattle.name_table.specs.declared.limits.TheConstants.{MAX_INDICES};
-ghost use Rattle.statement_walk.specs.Symbols.{find, is_among, is_scalar, is_variable, satisfies};
+ghost use Rattle.expression_rules.specs.Symbols.{find, is_among, is_scalar, is_variable, satisfies};
 ghost use Rattle.name_table.specs.Uses.{repeats, allows, Assigned};
 ghost use Rattle.statement_walk.specs.Views.{head_of};
 ghost use Rattle.name_table.specs.NameReasons.{name_reason};
@@ -15,10 +15,12 @@ ghost use Rattle.name_table.specs.NameReasons.{name_reason};
 use crate::head_operands::all_are_operands;
 use crate::limits::MAX_INDICES;
 use crate::listed_names::{are_declared, is_distribution_declared};
+use expression_rules::{Scope, Symbol, SymbolTable, is_among};
 use hpf_base::{Name, Reason, Refusal};
 use indexmap::IndexSet;
-use statement_walk::{Head, Header, Judge, Scope, Stmt, Symbol, SymbolTable, first_bad, is_among};
+use statement_walk::{Head, Judge, first_bad};
 use std::alloc::{AllocError, Global};
+use syntax_tree::{Header, Stmt};
 
 /// Judges the names of a statement.
 #[derive(Clone, Copy)]
@@ -104,7 +106,7 @@ fn has_many(head: Head<'_>) -> bool
 }
 
 /// The names that a statement uses, beside those in its expressions, stand for what their uses ask.
-#[tactic(auto, using(crate::proofs::Folds::all_map, statement_walk::proofs::Folds::all_append))]
+#[tactic(auto, using(crate::proofs::Folds::all_map, expression_rules::proofs::Folds::all_append))]
 fn own_stand(table: &SymbolTable, do_variables: &[Name], head: Head<'_>) -> bool
     ensures { result ≡ list_all (allows table.now do_variables.now) (own_uses (head_of head.entry)) }
 {

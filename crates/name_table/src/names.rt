@@ -4,9 +4,9 @@ ghost use Rattle.std.specs.Prelude.{◌≡◌, ◌++◌, ◌∷◌, [], bytes_eq
 ghost use Rattle.name_table.specs.Entries.{declared_as, entry, what_is, or_none, or_zero};
 ghost use Rattle.name_table.specs.NewNames.{IsNew};
 
+use expression_rules::{Dims, Symbol, SymbolTable};
 use hpf_base::Name;
 use indexmap::IndexMap;
-use statement_walk::{Dims, Symbol, SymbolTable};
 use std::alloc::{AllocError, Global};
 use std::marker::Model;
 

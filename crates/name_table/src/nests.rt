@@ -4,13 +4,13 @@ ghost use Rattle.std.specs.Prelude.{◌≡◌, None, option_map, slice_get};
 ghost use Rattle.std.specs.List.{flat_map};
 ghost use Rattle.hpf_base.specs.FirstBreach.{least};
 ghost use Rattle.hpf_base.specs.declared.refusal.Reason.TheVariants.{Limit};
-ghost use Rattle.statement_walk.specs.Statement.{Done, Then, arms_of, block_of, do_construct, statement};
+ghost use Rattle.syntax_tree.specs.Statement.{Done, Then, arms_of, block_of, do_construct, statement};
 ghost use Rattle.name_table.specs.NameRules.{nest_breaches};
 ghost use Rattle.statement_walk.specs.Nests.{arm_nests, nest_in, nests, statement_nests};
 
 use crate::limits::MAX_INDICES;
 use hpf_base::{Reason, Refusal, earlier};
-use statement_walk::{Arm, DoLoop, StatementKind, Stmt};
+use syntax_tree::{Arm, DoLoop, StatementKind, Stmt};
 
 /// The first nest with a loop too many, where there is one: the line of the first such loop. It takes no memory.
 #[cycle(nests)]

@@ -1,8 +1,9 @@
 //! The test of expressions whose names must stand for numbers.
 
 use crate::expressions::ExpressionTest;
-use statement_walk::{Expr, Scope, are_operands};
+use expression_rules::{Scope, are_operands};
 use std::alloc::AllocError;
+use syntax_tree::Expr;
 
 /// Whether each name in expressions stands for a number or for numbers.
 #[derive(Clone, Copy)]
@@ -11,7 +12,7 @@ pub(crate) struct Operands<'a> {
 }
 
 impl<'a> ExpressionTest for Operands<'a> {
-    ghost use Rattle.statement_walk.specs.Operands.{are_operands};
+    ghost use Rattle.expression_rules.specs.Operands.{are_operands};
 
     ghost passes = { λ t e. are_operands t.scope.now e };
 

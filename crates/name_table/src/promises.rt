@@ -1,6 +1,6 @@
 //! Laws of programs that keep the rules.
 
-ghost use Rattle.statement_walk.specs.MainProgram.{MainProgram};
+ghost use Rattle.syntax_tree.specs.MainProgram.{MainProgram};
 ghost use Rattle.name_table.specs.KnownSymbols.{AllAreKnown};
 
 /// All that a program declares is known where it breaks no rule of names, constants, types and ranks.

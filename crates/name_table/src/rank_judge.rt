@@ -3,10 +3,10 @@
 ghost use Rattle.std.specs.Prelude.{◌≡◌, ◌&&◌, ◌||◌, nat_eq, [], ◌∷◌, IfOk};
 ghost use Rattle.std.specs.List.{flat_map};
 ghost use Rattle.hpf_base.specs.FirstBreach.{least};
-ghost use Rattle.statement_walk.specs.Expression.{expression};
-ghost use Rattle.statement_walk.specs.Statement.{block_of, designator, variable};
-ghost use Rattle.statement_walk.specs.Context.TheVariants as context;
-ghost use Rattle.statement_walk.specs.Types.{if_typed, type_and_rank};
+ghost use Rattle.syntax_tree.specs.Expression.{expression};
+ghost use Rattle.syntax_tree.specs.Statement.{block_of, designator, variable};
+ghost use Rattle.expression_rules.specs.declared.types.Context.TheVariants as context;
+ghost use Rattle.expression_rules.specs.Types.{if_typed, type_and_rank};
 ghost use Rattle.statement_walk.specs.Heads.{all_heads};
 ghost use Rattle.name_table.specs.Places.{all_meet, context_of, is_designator, is_element, is_integer, is_mask, is_masked_by, is_right_of, meets, place, places, ArrayElement, IntegerScalar, LogicalArray, LogicalScalar, MaskedArray, RightOf, Variable};
 ghost use Rattle.name_table.specs.RankRules.{rank_breaches_at};
@@ -15,12 +15,14 @@ ghost use Rattle.statement_walk.specs.Views.{head_of};
 use crate::expressions::{ExpressionTest, in_axis, in_formats, in_headers, in_items, in_option};
 use crate::integer_scalars::IntegerScalars;
 use crate::refused::refused_unless;
-use hpf_base::{Name, Reason, Refusal};
-use statement_walk::{
-    Context, DataType, Expr, Head, Judge, Ref, Scope, Stmt, SymbolTable, TypeAndRank, first_bad,
-    is_integer_scalar, is_logical_scalar, reference_type, type_and_rank,
+use expression_rules::{
+    Context, DataType, Scope, SymbolTable, TypeAndRank, is_integer_scalar, is_logical_scalar,
+    reference_type, type_and_rank,
 };
+use hpf_base::{Name, Reason, Refusal};
+use statement_walk::{Head, Judge, first_bad};
 use std::alloc::{AllocError, Global};
+use syntax_tree::{Expr, Ref, Stmt};
 
 /// Judges the types and ranks of a statement.
 #[derive(Clone, Copy)]
@@ -67,7 +69,7 @@ struct LogicalScalars<'a> {
 }
 
 impl<'a> ExpressionTest for LogicalScalars<'a> {
-    ghost use Rattle.statement_walk.specs.Context.TheVariants as context;
+    ghost use Rattle.expression_rules.specs.declared.types.Context.TheVariants as context;
     ghost use Rattle.name_table.specs.Places.{meets, LogicalScalar};
 
     ghost passes = { λ t e. meets context.Statement t.scope.now LogicalScalar e };
@@ -86,7 +88,7 @@ struct PrintItems<'a> {
 }
 
 impl<'a> ExpressionTest for PrintItems<'a> {
-    ghost use Rattle.statement_walk.specs.Context.TheVariants as context;
+    ghost use Rattle.expression_rules.specs.declared.types.Context.TheVariants as context;
     ghost use Rattle.name_table.specs.Places.{meets, PrintItem};
 
     ghost passes = { λ t e. meets context.Statement t.scope.now PrintItem e };
@@ -137,7 +139,7 @@ fn all_meet(alloc: Global, scope: &Scope<'_>, head: Head<'_>) -> Result<bool, Al
 }
 
 /// The type and the rank of the left side of an assignment.
-#[tactic(auto, using(statement_walk::proofs::Designators::designated))]
+#[tactic(auto, using(syntax_tree::proofs::Designators::designated))]
 fn variable_type(
     alloc: Global,
     scope: &Scope<'_>,
@@ -179,7 +181,7 @@ fn is_integer(what: TypeAndRank) -> bool
 }
 
 /// Whether the variable is an element or a section of an array.
-#[tactic(auto, using(statement_walk::proofs::Designators::designated))]
+#[tactic(auto, using(syntax_tree::proofs::Designators::designated))]
 fn is_element(left: &Ref) -> bool
     ensures { result ≡ is_element (designator (variable left.now)) }
 {

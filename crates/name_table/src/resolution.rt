@@ -3,7 +3,7 @@
 ghost use Rattle.std.specs.Prelude.{◌≡◌, [], map, IfErr, IfOk, OnOk};
 ghost use Rattle.std.specs.List.{flat_map};
 ghost use Rattle.hpf_base.specs.FirstBreach.{least};
-ghost use Rattle.statement_walk.specs.MainProgram.{declaration, main_program};
+ghost use Rattle.syntax_tree.specs.MainProgram.{declaration, main_program};
 ghost use Rattle.declarations.specs.Declarations.{items, symbol_table};
 ghost use Rattle.name_table.specs.Entries.{entries};
 ghost use Rattle.name_table.specs.NameRules.{name_breaches};
@@ -19,9 +19,10 @@ use crate::names::{Names, entries_of};
 use crate::nests::first_deep_nest;
 use crate::rank_judge::first_bad_rank;
 use declarations::{Declarations, declare};
+use expression_rules::SymbolTable;
 use hpf_base::{Refusal, StaticError, earlier};
-use statement_walk::{SymbolTable, Tree};
 use std::alloc::{AllocError, Global};
+use syntax_tree::Tree;
 
 /// A program that keeps the rules of names, constants, types and ranks: its tree, its symbol table, and what it declares.
 #[derive(Drop)]

@@ -16,3 +16,5 @@ pub mod MadeRows
 pub mod PairedTexts
 pub mod ListedFinals
 pub use Rattle.nest_parts.proofs.Opening
+pub use Rattle.nest_texts.proofs.Counting
+pub use Rattle.nest_texts.proofs.Codes

@@ -14,16 +14,16 @@ use Rattle.node_code.specs.Forms.{Sub, SubAlong}
 use Rattle.node_code.specs.NestStatements.{ElementLeft, CopyLeft}
 use Rattle.node_code.specs.Instructions.{Instruction, Set, Trips}
 use Rattle.program_code.specs.ExpressionCode.{index_flat, index_subs, index_form}
-use Rattle.nest_syntax.specs.NestKinds.{Kind, kind_of}
-use Rattle.nest_syntax.specs.ClosedTerms.{closed_value}
-use Rattle.nest_syntax.specs.Assigning.{Assigning, ToScalar, ToElement}
-use Rattle.nest_syntax.specs.Finals.{Final}
+use Rattle.statement_trail.specs.NestKinds.{Kind, kind_of}
+use Rattle.statement_trail.specs.ClosedTerms.{closed_value}
+use Rattle.statement_trail.specs.Assigning.{Assigning, ToScalar, ToElement}
+use Rattle.statement_trail.specs.Finals.{Final}
 use Rattle.program_code.specs.NestTexts.{NestText, NestTest}
 use Rattle.program_code.specs.NestInstructions as forms
 use Rattle.program_code.specs.NestInstructions.{FlatBounds, NestBody, NestArms, count_nest, slots_of_nest, nest_instructions}
 use Rattle.statement_trail.specs.NestParts as parts
 use Rattle.statement_trail.specs.NestParts.{among_from, index_in}
-use Rattle.nest_syntax.specs.NestTerms.{indexed, all_indexed}
+use Rattle.statement_trail.specs.NestTerms.{indexed, all_indexed}
 use Rattle.program_code.specs.Places.{conditions_from, place_of, marks_of, finals_of}
 
 -- ---- the innermost block as a body of texts

@@ -9,8 +9,8 @@ use Rattle.node_code.specs.Forms.{Sub, FlatForm}
 use Rattle.node_code.specs.Parallel.{When}
 use Rattle.node_code.specs.NestStatements.{NestStatement, CopyLeft}
 use Rattle.node_code.specs.Instructions.{Instruction, Set, Trips, Jump, JumpIfZero, Verdict, FoldCopy, LastCopy, ParNest, MakeCopies}
-use Rattle.nest_syntax.specs.Asked.{Asked, guard_asked, tested_asked}
-use Rattle.nest_syntax.specs.Finals.{Final, Folds, Lasts}
+use Rattle.statement_trail.specs.Asked.{Asked, guard_asked, tested_asked}
+use Rattle.statement_trail.specs.Finals.{Final, Folds, Lasts}
 use Rattle.program_code.specs.NestTexts.{NestText, NestTest}
 
 -- ---- bodies with bounds of inner loops as expressions over the slots

@@ -2,8 +2,8 @@
 -- Where the rows of a nest lie among the machine's rows, as numbers. The nest's storage has a row for each name, and after those its stored conditions.
 -- The machine has a row for each name, after those the copies of each scalar that the nest assigns, then the stored conditions, and then the marks.
 use Rattle.std.specs.Prelude.{◌≡◌, ℕ, suc, ◌+◌, ◌<◌, nat_lt, List, [], ◌∷◌, length, Bool, Option, Some, None, if◌then◌else◌}
-use Rattle.nest_syntax.specs.NestKinds.{Kind, New, Assigned, Reduced}
-use Rattle.nest_syntax.specs.Finals.{Final, Folds, Lasts}
+use Rattle.statement_trail.specs.NestKinds.{Kind, New, Assigned, Reduced}
+use Rattle.statement_trail.specs.Finals.{Final, Folds, Lasts}
 use Rattle.statement_trail.specs.NestParts.{index_in}
 
 -- no number stands twice in a list

@@ -2,12 +2,12 @@
 -- The parts of a nest of INDEPENDENT loops (HPF 2.0, 5.1): each is done at all iterations before the next one. An iteration has copies of its own of the scalars
 -- that the nest assigns, and its own stored conditions.
 use Rattle.std.specs.Prelude.{ℕ, zero, suc, ◌+◌, nat_eq, List, [], ◌∷◌, ◌++◌, Bool, true, false, if◌then◌else◌, Option, Some, None, unwrap_or, length}
-use Rattle.array_meaning.specs.Terms.{Term, Scalar, Element, Apply, Terms, NoTerm, More}
-use Rattle.array_meaning.specs.Statements.{Nest, Block, Done, Then, Statement, AssignScalar, AssignElement, If, Do, Arms, NoArm, Arm}
-use Rattle.array_meaning.specs.State.{State, set_scalar}
-use Rattle.array_meaning.specs.declared.sections.Sequence.{Sequence}
-use Rattle.array_meaning.specs.Iterations.{is_in, values_of, nest_axes, nest_indices, turn_value}
-use Rattle.array_meaning.specs.Touches.{assigned_in}
+use Rattle.nest_syntax.specs.Terms.{Term, Scalar, Element, Apply, Terms, NoTerm, More}
+use Rattle.nest_syntax.specs.Statements.{Nest, Block, Done, Then, Statement, AssignScalar, AssignElement, If, Do, Arms, NoArm, Arm}
+use Rattle.nest_syntax.specs.State.{State, set_scalar}
+use Rattle.nest_syntax.specs.Sequence.{Sequence}
+use Rattle.nest_syntax.specs.Iterations.{is_in, values_of, nest_axes, nest_indices, turn_value}
+use Rattle.nest_syntax.specs.Touches.{assigned_in}
 
 -- A nest that is entered: its indices, the innermost loop's first, and the values that they take; the scalars that it assigns, as declared; and how many
 -- conditions are stored

@@ -5,26 +5,26 @@ use Rattle.std.specs.Prelude.{ℕ, zero, suc, ◌+◌, List, [], ◌∷◌, ◌+
 use Rattle.hpf_base.specs.ElementOrder.{product}
 use Rattle.op_tables.specs.declared.op.Op.{Op}
 use Rattle.op_tables.specs.Operators.{wrapped}
-use Rattle.array_meaning.specs.MainProgram.{MainProgram}
-use Rattle.array_meaning.specs.Statement as syntax
-use Rattle.array_meaning.specs.Entry.{Entry}
-use Rattle.array_meaning.specs.Entries.{entries}
-use Rattle.array_meaning.specs.Terms.{Term, Element, Section, Apply, Reduce, Terms, NoTerm, More, SectionSubscripts, NoSubscript, Subscript, Triplet, Control}
-use Rattle.array_meaning.specs.Statements.{SectionAssignment, ElementAssignment, Item, Text, Value, Elements, Nest, Block, Done, Then, Statement, AssignScalar, AssignElement, AssignSection, If, Do, Where, Forall, Print, Redistribute, Mark, Unmarked, Outermost, Arms, NoArm, Arm}
-use Rattle.array_meaning.specs.Faults.{Cause, ◌>>=◌}
-use Rattle.array_meaning.specs.State.{State, set_scalar, place_in}
-use Rattle.array_meaning.specs.Runs.{Completion, Normal, Cycled, Run, normal, one_step}
-use Rattle.array_meaning.specs.declared.sections.Sequence.{Sequence}
-use Rattle.array_meaning.specs.declared.sections.Selection.{Selection}
-use Rattle.array_meaning.specs.Sections.{sequence_of, extents, space_size}
-use Rattle.array_meaning.specs.Elementals.{Elemental, sections, own_extents, own_size, array_value}
-use Rattle.array_meaning.specs.Expressions.{value, values, elemental, selections, index_values, all_index_values}
-use Rattle.array_meaning.specs.ArrayAssignments.{Mask, assign_where, assign_all_where, mask_of, negated_mask}
-use Rattle.array_meaning.specs.Forall.{index_extents, all_subscripts, check_limits, check_one_to_one, mask_over, assign_forall}
-use Rattle.array_meaning.specs.Iterations.{values_of, iteration_count, in_turns}
-use Rattle.array_meaning.specs.NestEntry.{entered}
-use Rattle.array_meaning.specs.Execution.{condition, item_bytes, run, run_block}
-use Rattle.array_meaning.specs.Resolution.{resolved_block, initial_state}
+use Rattle.nest_syntax.specs.MainProgram.{MainProgram}
+use Rattle.nest_syntax.specs.Statement as syntax
+use Rattle.nest_syntax.specs.Entry.{Entry}
+use Rattle.nest_syntax.specs.Entries.{entries}
+use Rattle.nest_syntax.specs.Terms.{Term, Element, Section, Apply, Reduce, Terms, NoTerm, More, SectionSubscripts, NoSubscript, Subscript, Triplet, Control}
+use Rattle.nest_syntax.specs.Statements.{SectionAssignment, ElementAssignment, Item, Text, Value, Elements, Nest, Block, Done, Then, Statement, AssignScalar, AssignElement, AssignSection, If, Do, Where, Forall, Print, Redistribute, Mark, Unmarked, Outermost, Arms, NoArm, Arm}
+use Rattle.nest_syntax.specs.Faults.{Cause, ◌>>=◌}
+use Rattle.nest_syntax.specs.State.{State, set_scalar, place_in}
+use Rattle.nest_syntax.specs.Runs.{Completion, Normal, Cycled, Run, normal, one_step}
+use Rattle.nest_syntax.specs.Sequence.{Sequence}
+use Rattle.nest_syntax.specs.Selection.{Selection}
+use Rattle.nest_syntax.specs.Sections.{sequence_of, extents, space_size}
+use Rattle.nest_syntax.specs.Elementals.{Elemental, sections, own_extents, own_size, array_value}
+use Rattle.nest_syntax.specs.Expressions.{value, values, elemental, selections, index_values, all_index_values}
+use Rattle.nest_syntax.specs.ArrayAssignments.{Mask, assign_where, assign_all_where, mask_of, negated_mask}
+use Rattle.nest_syntax.specs.Forall.{index_extents, all_subscripts, check_limits, check_one_to_one, mask_over, assign_forall}
+use Rattle.nest_syntax.specs.Iterations.{values_of, iteration_count, in_turns}
+use Rattle.nest_syntax.specs.NestEntry.{entered}
+use Rattle.nest_syntax.specs.Execution.{condition, item_bytes, run, run_block}
+use Rattle.nest_syntax.specs.Resolution.{resolved_block, initial_state}
 use Rattle.statement_trail.specs.NestParts.{EnteredNest, NestPart, ScalarPart, ElementPart, ConditionPart, has_statement, conditions_in, conditions_by, in_trip, indices_after, indices_by, entered_nest}
 use Rattle.nest_syntax.specs.Asked.{Asked, guard_asked, tested_asked}
 

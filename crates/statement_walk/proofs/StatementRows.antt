@@ -1,10 +1,10 @@
 -- An arm of an IF, by its fields.
 use Rattle.std.proofs.Common.{◌≡◌, List, ◌∷◌, ap, ◌∙◌}
-use Rattle.expression_rules.specs.Arm.{Arm, out-Arm}
-use Rattle.expression_rules.specs.StatementKind.TheViews.{is-struct-Arm}
-use Rattle.expression_rules.specs.Expression.{expression}
-use Rattle.expression_rules.specs.Statement.{block_of}
-use Rattle.expression_rules.proofs.Rows.{block_vec}
+use Rattle.syntax_tree.specs.declared.stmt.Arm.{Arm, out-Arm}
+use Rattle.syntax_tree.specs.declared.stmt.StatementKind.TheViews.{is-struct-Arm}
+use Rattle.syntax_tree.specs.Expression.{expression}
+use Rattle.syntax_tree.specs.Statement.{block_of}
+use Rattle.syntax_tree.proofs.Rows.{block_vec}
 use Rattle.expression_rules.specs.Symbols.{Name}
 use Rattle.statement_walk.specs.Heads.{placed, heads}
 use Rattle.statement_walk.specs.Head as head

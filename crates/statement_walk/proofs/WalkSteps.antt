@@ -4,24 +4,24 @@ use Rattle.std.specs.Prelude.{Vec, Box, option_map}
 use Rattle.std.specs.List.{flat_map}
 use Rattle.std.proofs.lemmas.List.{append-nil}
 use Rattle.hpf_base.specs.declared.refusal.Refusal.{Refusal}
-use Rattle.expression_rules.specs.Expr.{Expr}
-use Rattle.expression_rules.specs.Stmt.{Stmt}
-use Rattle.expression_rules.specs.Arm.{Arm as HeldArm, out-Arm}
-use Rattle.expression_rules.specs.DoLoop.{DoLoop, out-DoLoop}
-use Rattle.expression_rules.specs.Header.{Header}
-use Rattle.expression_rules.specs.StatementKind as StatementKind
-use Rattle.expression_rules.specs.StatementKind.TheBlock.{struct-Arm, hidden-the_row-Arm-0, back-StatementKind-If-1}
-use Rattle.expression_rules.specs.Expression.{Expression, expression}
-use Rattle.expression_rules.specs.Statement.{Axis, arms, axis, block_of, do_construct, independent, rest_assignments, statement}
+use Rattle.syntax_tree.specs.declared.expr.Expr.{Expr}
+use Rattle.syntax_tree.specs.declared.stmt.Stmt.{Stmt}
+use Rattle.syntax_tree.specs.declared.stmt.Arm.{Arm as HeldArm, out-Arm}
+use Rattle.syntax_tree.specs.declared.stmt.DoLoop.{DoLoop, out-DoLoop}
+use Rattle.syntax_tree.specs.declared.stmt.Header.{Header}
+use Rattle.syntax_tree.specs.declared.stmt.StatementKind as StatementKind
+use Rattle.syntax_tree.specs.declared.stmt.StatementKind.TheBlock.{struct-Arm, hidden-the_row-Arm-0, back-StatementKind-If-1}
+use Rattle.syntax_tree.specs.Expression.{Expression, expression}
+use Rattle.syntax_tree.specs.Statement.{Axis, arms, axis, block_of, do_construct, independent, rest_assignments, statement}
 use Rattle.expression_rules.specs.Symbols.{Name}
 use Rattle.hpf_base.specs.FirstBreach.{earlier, least}
 use Rattle.statement_walk.specs.Heads.{PlacedHead, arm_heads, placed, heads, indexed, independent_heads, masked, statement_heads}
 use Rattle.statement_walk.specs.Head as head
 use Rattle.statement_walk.specs.Views.{arm_alone, elsewhere_of}
-use Rattle.expression_rules.specs.Statement.{arms_of, assignments_in, assignments_of}
+use Rattle.syntax_tree.specs.Statement.{arms_of, assignments_in, assignments_of}
 use Rattle.expression_rules.proofs.Turns.{least_both, least_more}
 use Rattle.statement_walk.proofs.StatementRows.{arm_parts}
-use Rattle.expression_rules.proofs.Rows.{do_parts, arms_vec, assignments_vec, block_vec}
+use Rattle.syntax_tree.proofs.Rows.{do_parts, arms_vec, assignments_vec, block_vec}
 
 -- one, and what allows inside it
 pub more_first : (f : PlacedHead → List Refusal) (p : PlacedHead) (xs ys : List PlacedHead) (own inside result : Option Refusal) →

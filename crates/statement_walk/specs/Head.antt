@@ -1,9 +1,9 @@
 -- Of the claim.
 -- What a statement says by itself, without the statements inside it (Fortran 95, 2.3 and 8.1; HPF 2.0, 5.1).
 use Rattle.std.specs.Prelude.{List, Option}
-use Rattle.expression_rules.specs.Expression.{Expression}
-use Rattle.expression_rules.specs.Directive.{Distribution}
-use Rattle.expression_rules.specs.Statement as syntax
+use Rattle.syntax_tree.specs.Expression.{Expression}
+use Rattle.syntax_tree.specs.Directive.{Distribution}
+use Rattle.syntax_tree.specs.Statement as syntax
 
 pub data Head : Type 0 where
   -- an assignment; one under the mask of a WHERE; one of a FORALL with these indices

@@ -2,8 +2,8 @@
 -- What a program's statements say one by one, in the order of the text (Fortran 95, 2.3 and 8.1; HPF 2.0, 5.1): each with its
 -- line and with the indices of the DO loops round it.
 use Rattle.std.specs.Prelude.{ℕ, List, [], ◌∷◌, ◌++◌, map, Option, Some, None}
-use Rattle.expression_rules.specs.Expression.{Expression}
-use Rattle.expression_rules.specs.Statement.{Assignment, Axis, Independent, Block, Done, Then, Statement, Assign, If, Do, Where, Forall, Print, Continue, Redistribute, Arms, NoArm, Arm, Otherwise, Without, With}
+use Rattle.syntax_tree.specs.Expression.{Expression}
+use Rattle.syntax_tree.specs.Statement.{Assignment, Axis, Independent, Block, Done, Then, Statement, Assign, If, Do, Where, Forall, Print, Continue, Redistribute, Arms, NoArm, Arm, Otherwise, Without, With}
 use Rattle.expression_rules.specs.Symbols.{Name}
 use Rattle.statement_walk.specs.Head.{Head}
 use Rattle.statement_walk.specs.Head as head

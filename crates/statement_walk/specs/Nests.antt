@@ -2,7 +2,7 @@
 -- Nests of INDEPENDENT loops (HPF 2.0, 5.1): an INDEPENDENT DO, and within it, as long as the whole body is one further
 -- INDEPENDENT DO, that loop too.
 use Rattle.std.specs.Prelude.{ℕ, List, [], ◌∷◌, ◌++◌, Some, None}
-use Rattle.expression_rules.specs.Statement.{Axis, Independent, Block, Done, Then, Statement, If, Do, Arms, NoArm, Arm, Otherwise, Without, With}
+use Rattle.syntax_tree.specs.Statement.{Axis, Independent, Block, Done, Then, Statement, If, Do, Arms, NoArm, Arm, Otherwise, Without, With}
 
 -- a loop of a nest, with the line of its DO
 pub record Loop : Type 0 where

@@ -3,12 +3,12 @@
 -- `head_of`.
 use Rattle.std.specs.Prelude.{List, [], ◌∷◌, map, Option, Some, None, option_map, Vec}
 use Rattle.std.specs.declared.alloc.Global.{Global}
-use Rattle.expression_rules.specs.Stmt.{Stmt}
-use Rattle.expression_rules.specs.Arm.{Arm}
-use Rattle.expression_rules.specs.StatementKind.TheBlock.{struct-Arm}
-use Rattle.expression_rules.specs.Expression.{expression}
-use Rattle.expression_rules.specs.Directive.{distribution}
-use Rattle.expression_rules.specs.Statement.{Assignment, assignments_of, axis, block, independent, item_of, variable}
+use Rattle.syntax_tree.specs.declared.stmt.Stmt.{Stmt}
+use Rattle.syntax_tree.specs.declared.stmt.Arm.{Arm}
+use Rattle.syntax_tree.specs.declared.stmt.StatementKind.TheBlock.{struct-Arm}
+use Rattle.syntax_tree.specs.Expression.{expression}
+use Rattle.syntax_tree.specs.Directive.{distribution}
+use Rattle.syntax_tree.specs.Statement.{Assignment, assignments_of, axis, block, independent, item_of, variable}
 use Rattle.expression_rules.specs.Symbols.{Name}
 use Rattle.statement_walk.specs.declared.statements.Head.{Head as HeldHead}
 use Rattle.statement_walk.specs.declared.statements.Head.TheVariants as held

@@ -9,10 +9,4 @@
 
 mod statements;
 
-pub use expression_rules::{
-    Arm, Bound, ConstDef, Context, DataType, Decl, DeclKind, Dims, Directive, DistSpec, DoLoop,
-    EndForm, Entity, Expr, Format, Header, IntegerDecl, Item, Ref, Scope, Source, StatementKind,
-    Stmt, Subscript, Symbol, SymbolTable, Target, Tree, TypeAndRank, are_operands, is_among,
-    is_integer_scalar, is_logical_scalar, is_operand_reference, reference_type, type_and_rank,
-};
 pub use statements::{Head, Judge, first_bad};

@@ -3,16 +3,16 @@
 ghost use Rattle.std.specs.Prelude.{◌≡◌, List, [], ◌∷◌, map, option_map, IfOk, OnOk};
 ghost use Rattle.std.specs.List.{flat_map};
 ghost use Rattle.hpf_base.specs.declared.refusal.Refusal.{Refusal};
-ghost use Rattle.expression_rules.specs.Expression.{expression};
-ghost use Rattle.expression_rules.specs.Statement.{axis, block_of, do_construct, independent, statement};
+ghost use Rattle.syntax_tree.specs.Expression.{expression};
+ghost use Rattle.syntax_tree.specs.Statement.{axis, block_of, do_construct, independent, statement};
 ghost use Rattle.statement_walk.specs.Heads.{PlacedHead, all_heads, arm_heads, heads, indexed, independent_heads, masked, placed, statement_heads};
 ghost use Rattle.hpf_base.specs.FirstBreach.{least};
 ghost use Rattle.statement_walk.specs.Views.{arm_alone, elsewhere_of, head_of};
-ghost use Rattle.expression_rules.specs.Statement.{arms_of, assignments_in, assignments_of};
+ghost use Rattle.syntax_tree.specs.Statement.{arms_of, assignments_in, assignments_of};
 
-use expression_rules::{Arm, DistSpec, DoLoop, Expr, Header, Item, Mark, Ref, StatementKind, Stmt};
 use hpf_base::{Name, Refusal, earlier};
 use std::alloc::{AllocError, Global};
+use syntax_tree::{Arm, DistSpec, DoLoop, Expr, Header, Item, Mark, Ref, StatementKind, Stmt};
 
 /// What a statement says by itself, without the statements inside it.
 #[derive(Clone, Copy)]

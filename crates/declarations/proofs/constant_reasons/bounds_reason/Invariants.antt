@@ -1,6 +1,6 @@
 use Rattle.std.proofs.Common.{◌≡◌, drop, map}
 use Rattle.std.specs.List.{flat_map}
-use Rattle.expression_rules.specs.Directive.{bound}
+use Rattle.syntax_tree.specs.Directive.{bound}
 use Rattle.declarations.specs.Declaring.{constant_reason, lesser}
 use Rattle.expression_rules.specs.Inner.{bound_expressions}
 use Rattle.declarations.proofs.constant_reasons.bounds_reason.Given as goal

@@ -1,8 +1,8 @@
 use Rattle.std.proofs.Common.{[], ◌∷◌, sym, ap, ◌∙◌}
 use Rattle.std.specs.Prelude.{not}
 use Rattle.hpf_base.specs.declared.refusal.Reason.TheVariants as reason
-use Rattle.expression_rules.specs.Expression.{expression}
-use Rattle.expression_rules.specs.MainProgram.{named_constant}
+use Rattle.syntax_tree.specs.Expression.{expression}
+use Rattle.syntax_tree.specs.MainProgram.{named_constant}
 use Rattle.declarations.specs.Declaring.{constant_reason, lesser, reason_if}
 use Rattle.declarations.proofs.ItemReasons.{definition_by_tests}
 use Rattle.declarations.proofs.declared_items.definition_reason.Goals as goal

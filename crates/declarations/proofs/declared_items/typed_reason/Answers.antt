@@ -2,8 +2,8 @@ use Rattle.std.proofs.Common.{sym, ap, ◌∙◌}
 use Rattle.std.specs.Prelude.{option_map}
 use Rattle.std.specs.List.{flat_map}
 use Rattle.hpf_base.specs.declared.refusal.Reason.TheVariants as reason
-use Rattle.expression_rules.specs.Directive.{entity}
-use Rattle.expression_rules.specs.Expression.{expression}
+use Rattle.syntax_tree.specs.Directive.{entity}
+use Rattle.syntax_tree.specs.Expression.{expression}
 use Rattle.declarations.specs.Declarations.{bounds_of}
 use Rattle.declarations.specs.Declaring.{bounds_held, constant_reason, lesser, reason_if}
 use Rattle.expression_rules.specs.Inner.{bound_expressions, present}

@@ -1,4 +1,4 @@
-use Rattle.expression_rules.specs.MainProgram.{named_constant}
+use Rattle.syntax_tree.specs.MainProgram.{named_constant}
 use Rattle.declarations.specs.Declarations.{Definition}
 use Rattle.declarations.proofs.ItemTurns.{item_next}
 use Rattle.declarations.proofs.declaring.definitions.Goals as goal

@@ -1,4 +1,4 @@
-use Rattle.expression_rules.specs.Directive.{arrangement}
+use Rattle.syntax_tree.specs.Directive.{arrangement}
 use Rattle.declarations.specs.Declaring.{space_item}
 use Rattle.declarations.proofs.ItemTurns.{item_next}
 use Rattle.declarations.proofs.declaring.spaces.Goals as goal

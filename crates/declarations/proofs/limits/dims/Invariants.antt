@@ -1,6 +1,6 @@
 use Rattle.std.proofs.Common.{◌≡◌, drop, map}
 use Rattle.std.specs.Prelude.{option_map}
-use Rattle.expression_rules.specs.Directive.{bound}
+use Rattle.syntax_tree.specs.Directive.{bound}
 use Rattle.declarations.specs.Declarations.{dims}
 use Rattle.declarations.specs.Declaring.{and_dims}
 use Rattle.declarations.proofs.limits.dims.Given as goal

@@ -1,7 +1,7 @@
 use Rattle.std.proofs.Common.{◌≡◌, drop, map}
 use Rattle.std.specs.Prelude.{◌||◌}
 use Rattle.std.specs.List.{list_any}
-use Rattle.expression_rules.specs.Directive.{bound}
+use Rattle.syntax_tree.specs.Directive.{bound}
 use Rattle.declarations.specs.Declarations.{is_bound_too_far}
 use Rattle.declarations.proofs.limits.is_any_too_far.Given as goal
 

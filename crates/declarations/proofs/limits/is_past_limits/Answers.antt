@@ -1,6 +1,6 @@
 use Rattle.std.proofs.Common.{All, map, sym, ap, subst, ◌∙◌}
 use Rattle.std.specs.Prelude.{option_map}
-use Rattle.expression_rules.specs.Directive.{bound}
+use Rattle.syntax_tree.specs.Directive.{bound}
 use Rattle.expression_rules.specs.Dims.{IsDim}
 use Rattle.declarations.proofs.ArrayLimits.{each_within}
 use Rattle.declarations.proofs.limits.is_past_limits.Goals as goal

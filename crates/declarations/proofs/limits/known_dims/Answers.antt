@@ -1,6 +1,6 @@
 use Rattle.std.proofs.Common.{map, sym, ap, ◌∙◌}
 use Rattle.std.specs.Prelude.{option_map}
-use Rattle.expression_rules.specs.Directive.{bound}
+use Rattle.syntax_tree.specs.Directive.{bound}
 use Rattle.declarations.specs.Declarations.{dims}
 use Rattle.declarations.proofs.ArrayLimits.{are_dims}
 use Rattle.declarations.proofs.limits.known_dims.Goals as goal

@@ -1,9 +1,9 @@
 use Rattle.std.proofs.Common.{[], ◌∷◌, map, refl, sym, ap, ◌∙◌}
 use Rattle.std.proofs.lemmas.List.{append-nil}
 use Rattle.hpf_base.specs.FirstBreach.{least}
-use Rattle.statement_walk.specs.MainProgram.{declaration}
+use Rattle.syntax_tree.specs.MainProgram.{declaration}
 use Rattle.name_table.specs.RankRules.{declaration_breaches_at}
-use Rattle.statement_walk.proofs.Turns.{first_next}
+use Rattle.expression_rules.proofs.Turns.{first_next}
 use Rattle.name_table.proofs.declaration_ranks.first_bad_declaration.Goals as goal
 
 pub loop-decl-preserved : goal.loop-decl-preserved

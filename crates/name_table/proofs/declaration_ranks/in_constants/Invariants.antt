@@ -1,7 +1,7 @@
 use Rattle.std.proofs.Common.{◌≡◌, drop, map}
 use Rattle.std.specs.Prelude.{◌&&◌}
 use Rattle.std.specs.List.{list_all}
-use Rattle.statement_walk.specs.MainProgram.{named_constant}
+use Rattle.syntax_tree.specs.MainProgram.{named_constant}
 use Rattle.name_table.proofs.declaration_ranks.in_constants.Given as goal
 
 abbrev pub invariant-loop-constant : goal.invariant-loop-constant

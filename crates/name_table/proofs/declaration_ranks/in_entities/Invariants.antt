@@ -1,7 +1,7 @@
 use Rattle.std.proofs.Common.{◌≡◌, drop, map}
 use Rattle.std.specs.Prelude.{◌&&◌}
 use Rattle.std.specs.List.{flat_map, list_all}
-use Rattle.statement_walk.specs.Directive.{entity}
+use Rattle.syntax_tree.specs.Directive.{entity}
 use Rattle.name_table.specs.RankRules.{typed_expressions}
 use Rattle.name_table.proofs.declaration_ranks.in_entities.Given as goal
 

@@ -1,7 +1,7 @@
 use Rattle.std.proofs.Common.{◌≡◌, drop, map}
 use Rattle.std.specs.List.{flat_map}
 use Rattle.hpf_base.specs.FirstBreach.{earlier, least}
-use Rattle.statement_walk.specs.MainProgram.{declaration}
+use Rattle.syntax_tree.specs.MainProgram.{declaration}
 use Rattle.name_table.specs.NameRules.{directive_breaches_at}
 use Rattle.name_table.proofs.directive_names.first_bad_directive.Given as goal
 

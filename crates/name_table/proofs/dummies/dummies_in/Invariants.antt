@@ -1,6 +1,6 @@
 use Rattle.std.proofs.Common.{◌≡◌, ◌++◌, drop, map}
 use Rattle.std.specs.List.{flat_map}
-use Rattle.statement_walk.specs.Directive.{source_of}
+use Rattle.syntax_tree.specs.Directive.{source_of}
 use Rattle.name_table.specs.Directives.{dummy_of}
 use Rattle.name_table.proofs.dummies.dummies_in.Given as goal
 

@@ -1,7 +1,7 @@
 use Rattle.std.proofs.Common.{◌≡◌, drop, map}
 use Rattle.std.specs.Prelude.{◌&&◌}
 use Rattle.std.specs.List.{flat_map, list_all}
-use Rattle.statement_walk.specs.Directive.{arrangement}
+use Rattle.syntax_tree.specs.Directive.{arrangement}
 use Rattle.name_table.specs.Directives.{entity_expressions}
 use Rattle.name_table.proofs.expressions.in_arrangements.Given as goal
 

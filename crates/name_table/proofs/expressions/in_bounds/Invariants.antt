@@ -1,8 +1,8 @@
 use Rattle.std.proofs.Common.{◌≡◌, drop, map}
 use Rattle.std.specs.Prelude.{◌&&◌}
 use Rattle.std.specs.List.{flat_map, list_all}
-use Rattle.statement_walk.specs.Directive.{bound}
-use Rattle.statement_walk.specs.Inner.{bound_expressions}
+use Rattle.syntax_tree.specs.Directive.{bound}
+use Rattle.expression_rules.specs.Inner.{bound_expressions}
 use Rattle.name_table.proofs.expressions.in_bounds.Given as goal
 
 abbrev pub invariant-loop-dimension : goal.invariant-loop-dimension

@@ -1,8 +1,8 @@
 use Rattle.std.proofs.Common.{◌≡◌, drop, map}
 use Rattle.std.specs.Prelude.{◌&&◌}
 use Rattle.std.specs.List.{flat_map, list_all}
-use Rattle.statement_walk.specs.Directive.{format_of}
-use Rattle.statement_walk.specs.Inner.{format_expressions}
+use Rattle.syntax_tree.specs.Directive.{format_of}
+use Rattle.expression_rules.specs.Inner.{format_expressions}
 use Rattle.name_table.proofs.expressions.in_formats.Given as goal
 
 abbrev pub invariant-loop-format : goal.invariant-loop-format

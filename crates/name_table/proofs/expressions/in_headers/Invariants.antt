@@ -1,8 +1,8 @@
 use Rattle.std.proofs.Common.{◌≡◌, drop, map}
 use Rattle.std.specs.Prelude.{◌&&◌}
 use Rattle.std.specs.List.{flat_map, list_all}
-use Rattle.statement_walk.specs.Statement.{axis}
-use Rattle.statement_walk.specs.Inner.{axis_expressions}
+use Rattle.syntax_tree.specs.Statement.{axis}
+use Rattle.expression_rules.specs.Inner.{axis_expressions}
 use Rattle.name_table.proofs.expressions.in_headers.Given as goal
 
 abbrev pub invariant-loop-header : goal.invariant-loop-header

@@ -1,8 +1,8 @@
 use Rattle.std.proofs.Common.{◌≡◌, drop, map}
 use Rattle.std.specs.Prelude.{◌&&◌}
 use Rattle.std.specs.List.{flat_map, list_all}
-use Rattle.statement_walk.specs.Statement.{item_of}
-use Rattle.statement_walk.specs.Inner.{item_expressions}
+use Rattle.syntax_tree.specs.Statement.{item_of}
+use Rattle.expression_rules.specs.Inner.{item_expressions}
 use Rattle.name_table.proofs.expressions.in_items.Given as goal
 
 abbrev pub invariant-loop-item : goal.invariant-loop-item

@@ -1,7 +1,7 @@
 use Rattle.std.proofs.Common.{◌≡◌, drop, map}
 use Rattle.std.specs.Prelude.{◌&&◌}
 use Rattle.std.specs.List.{list_all}
-use Rattle.statement_walk.specs.Expression.{expression}
+use Rattle.syntax_tree.specs.Expression.{expression}
 use Rattle.name_table.proofs.expressions.in_list.Given as goal
 
 abbrev pub invariant-loop-e : goal.invariant-loop-e

@@ -1,7 +1,7 @@
 use Rattle.std.proofs.Common.{◌≡◌, drop, map}
 use Rattle.std.specs.Prelude.{◌&&◌}
 use Rattle.std.specs.List.{flat_map, list_all}
-use Rattle.statement_walk.specs.Directive.{target_of}
+use Rattle.syntax_tree.specs.Directive.{target_of}
 use Rattle.name_table.specs.Directives.{target_expressions}
 use Rattle.name_table.proofs.expressions.in_targets.Given as goal
 

@@ -1,8 +1,8 @@
 use Rattle.std.proofs.Common.{◌≡◌, drop, map}
 use Rattle.std.specs.Prelude.{◌&&◌}
 use Rattle.std.specs.List.{list_all}
-use Rattle.statement_walk.specs.Statement.{axis}
-use Rattle.statement_walk.specs.Symbols.{find, is_scalar, satisfies}
+use Rattle.syntax_tree.specs.Statement.{axis}
+use Rattle.expression_rules.specs.Symbols.{find, is_scalar, satisfies}
 use Rattle.statement_walk.specs.Heads.{indices_of}
 use Rattle.name_table.proofs.name_judge.are_indices.Given as goal
 

@@ -1,8 +1,8 @@
 use Rattle.std.proofs.Common.{◌≡◌, drop, map}
 use Rattle.std.specs.Prelude.{◌||◌}
-use Rattle.statement_walk.specs.Statement.{axis}
+use Rattle.syntax_tree.specs.Statement.{axis}
 use Rattle.statement_walk.specs.Heads.{indices_of}
-use Rattle.statement_walk.specs.Symbols.{is_among}
+use Rattle.expression_rules.specs.Symbols.{is_among}
 use Rattle.name_table.proofs.name_judge.is_index.Given as goal
 
 abbrev pub invariant-loop-other : goal.invariant-loop-other

@@ -1,6 +1,6 @@
 use Rattle.std.proofs.Common.{◌≡◌, drop, map}
 use Rattle.std.specs.Prelude.{◌||◌}
-use Rattle.statement_walk.specs.Statement.{axis}
+use Rattle.syntax_tree.specs.Statement.{axis}
 use Rattle.statement_walk.specs.Heads.{indices_of}
 use Rattle.name_table.specs.Uses.{repeats}
 use Rattle.name_table.proofs.Repeats.{repeats_after}

@@ -1,6 +1,6 @@
 use Rattle.std.proofs.Common.{slice_get, sym, ap, ◌∙◌}
 use Rattle.std.specs.Prelude.{option_map, ◌-◌}
-use Rattle.statement_walk.specs.Statement.{block_of}
+use Rattle.syntax_tree.specs.Statement.{block_of}
 use Rattle.statement_walk.specs.Nests.{nest_in}
 use Rattle.name_table.proofs.NestSteps.{later_loop, other_loops}
 use Rattle.name_table.proofs.nests.+loops.Goals as goal

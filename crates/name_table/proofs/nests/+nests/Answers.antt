@@ -1,11 +1,11 @@
 use Rattle.std.proofs.Common.{ap, ◌∙◌, refl}
 use Rattle.std.specs.List.{flat_map}
 use Rattle.hpf_base.specs.FirstBreach.{least}
-use Rattle.statement_walk.specs.Arm.{out-Arm}
-use Rattle.statement_walk.specs.Statement.{arms_of, block_of, statement}
+use Rattle.syntax_tree.specs.declared.stmt.Arm.{out-Arm}
+use Rattle.syntax_tree.specs.Statement.{arms_of, block_of, statement}
 use Rattle.name_table.specs.NameRules.{nest_breaches}
 use Rattle.statement_walk.specs.Nests.{arm_nests, nests, statement_nests}
-use Rattle.statement_walk.proofs.Turns.{first_next}
+use Rattle.expression_rules.proofs.Turns.{first_next}
 use Rattle.name_table.proofs.NestSteps.{arm_step, if_alone_nests, if_nests, nests_first, plain_nests}
 use Rattle.name_table.proofs.nests.+nests.Goals as goal
 

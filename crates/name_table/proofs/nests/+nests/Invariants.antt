@@ -1,7 +1,7 @@
 use Rattle.std.proofs.Common.{◌≡◌, drop}
 use Rattle.std.specs.List.{flat_map}
 use Rattle.hpf_base.specs.FirstBreach.{earlier, least}
-use Rattle.statement_walk.specs.Statement.{arms_of, block_of}
+use Rattle.syntax_tree.specs.Statement.{arms_of, block_of}
 use Rattle.name_table.specs.NameRules.{nest_breaches}
 use Rattle.statement_walk.specs.Nests.{arm_nests, nests}
 use Rattle.name_table.proofs.nests.+nests.Given as goal

@@ -1,7 +1,7 @@
 use Rattle.std.proofs.Common.{ap, ◌∙◌}
 use Rattle.std.specs.List.{flat_map}
 use Rattle.hpf_base.specs.FirstBreach.{least}
-use Rattle.statement_walk.specs.Statement.{block_of}
+use Rattle.syntax_tree.specs.Statement.{block_of}
 use Rattle.statement_walk.specs.Heads.{all_heads}
 use Rattle.name_table.specs.RankRules.{rank_breaches_at}
 use Rattle.name_table.proofs.rank_judge.first_bad_rank.Goals as goal

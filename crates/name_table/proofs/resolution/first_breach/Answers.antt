@@ -1,5 +1,5 @@
 use Rattle.std.proofs.Common.{sym, ◌∙◌}
-use Rattle.statement_walk.specs.MainProgram.{main_program}
+use Rattle.syntax_tree.specs.MainProgram.{main_program}
 use Rattle.name_table.proofs.ProgramBreaches.{refused_by_names, refused_by_ranks}
 use Rattle.name_table.proofs.resolution.first_breach.Goals as goal
 

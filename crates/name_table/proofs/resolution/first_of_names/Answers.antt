@@ -1,8 +1,8 @@
 use Rattle.std.proofs.Common.{[], map, ap, ◌∙◌}
 use Rattle.std.specs.List.{flat_map}
 use Rattle.hpf_base.specs.FirstBreach.{least}
-use Rattle.statement_walk.specs.MainProgram.{declaration, main_program}
-use Rattle.statement_walk.specs.Statement.{block_of}
+use Rattle.syntax_tree.specs.MainProgram.{declaration, main_program}
+use Rattle.syntax_tree.specs.Statement.{block_of}
 use Rattle.declarations.specs.Declarations.{items, symbol_table}
 use Rattle.statement_walk.specs.Heads.{all_heads}
 use Rattle.name_table.specs.NameRules.{directive_breaches_at, end_breaches, name_breaches_at, nest_breaches}

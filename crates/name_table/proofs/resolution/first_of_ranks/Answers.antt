@@ -1,8 +1,8 @@
 use Rattle.std.proofs.Common.{map, ◌∙◌}
 use Rattle.std.specs.List.{flat_map}
 use Rattle.hpf_base.specs.FirstBreach.{least}
-use Rattle.statement_walk.specs.MainProgram.{declaration}
-use Rattle.statement_walk.specs.Statement.{block_of}
+use Rattle.syntax_tree.specs.MainProgram.{declaration}
+use Rattle.syntax_tree.specs.Statement.{block_of}
 use Rattle.declarations.specs.Declarations.{symbol_table}
 use Rattle.statement_walk.specs.Heads.{all_heads}
 use Rattle.name_table.specs.RankRules.{declaration_breaches_at, rank_breaches_at}

@@ -2,15 +2,15 @@
 use Rattle.std.proofs.Common.{ap, ◌∙◌, refl, map, ◌++◌}
 use Rattle.std.specs.Prelude.{option_map}
 use Rattle.std.specs.List.{flat_map}
-use Rattle.expression_rules.specs.Arm.{out-Arm}
-use Rattle.expression_rules.specs.DoLoop.{out-DoLoop}
-use Rattle.expression_rules.specs.Expression.{expression}
-use Rattle.expression_rules.specs.Statement.{axis, block_of, independent, statement}
+use Rattle.syntax_tree.specs.declared.stmt.Arm.{out-Arm}
+use Rattle.syntax_tree.specs.declared.stmt.DoLoop.{out-DoLoop}
+use Rattle.syntax_tree.specs.Expression.{expression}
+use Rattle.syntax_tree.specs.Statement.{axis, block_of, independent, statement}
 use Rattle.hpf_base.specs.FirstBreach.{least}
 use Rattle.statement_walk.specs.Heads.{arm_heads, heads, indexed, independent_heads, masked, placed, statement_heads}
 use Rattle.statement_walk.specs.Head as head
 use Rattle.statement_walk.specs.Views.{arm_alone, elsewhere_of}
-use Rattle.expression_rules.specs.Statement.{arms_of, assignments_of}
+use Rattle.syntax_tree.specs.Statement.{arms_of, assignments_of}
 use Rattle.expression_rules.proofs.Turns.{first_next}
 use Rattle.statement_walk.proofs.Measures.{measured}
 use Rattle.statement_walk.proofs.WalkSteps.{more_first, both_first, arm_first, do_first, axis_in, if_one_heads, if_heads, if_alone_heads, forall_heads, where_heads, arm_step}

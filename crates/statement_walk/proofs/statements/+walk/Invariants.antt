@@ -1,9 +1,9 @@
 use Rattle.std.proofs.Common.{◌≡◌, drop}
 use Rattle.std.specs.List.{flat_map}
-use Rattle.expression_rules.specs.Statement.{block_of}
+use Rattle.syntax_tree.specs.Statement.{block_of}
 use Rattle.statement_walk.specs.Heads.{arm_heads, heads}
 use Rattle.hpf_base.specs.FirstBreach.{earlier, least}
-use Rattle.expression_rules.specs.Statement.{arms_of}
+use Rattle.syntax_tree.specs.Statement.{arms_of}
 use Rattle.statement_walk.proofs.statements.+walk.Given as goal
 
 -- the first of what is wrong so far, or else of what is wrong in the rest, is the first of all

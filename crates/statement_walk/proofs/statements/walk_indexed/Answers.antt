@@ -1,7 +1,7 @@
 use Rattle.std.proofs.Common.{map}
-use Rattle.expression_rules.specs.Statement.{axis}
+use Rattle.syntax_tree.specs.Statement.{axis}
 use Rattle.statement_walk.specs.Heads.{indexed}
-use Rattle.expression_rules.specs.Statement.{assignments_in, assignments_of}
+use Rattle.syntax_tree.specs.Statement.{assignments_in, assignments_of}
 use Rattle.expression_rules.proofs.Turns.{first_next}
 use Rattle.statement_walk.proofs.WalkSteps.{indexed_step}
 use Rattle.statement_walk.proofs.statements.walk_indexed.Goals as goal

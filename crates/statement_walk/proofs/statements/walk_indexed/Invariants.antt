@@ -1,9 +1,9 @@
 use Rattle.std.proofs.Common.{◌≡◌, drop, map}
 use Rattle.std.specs.List.{flat_map}
-use Rattle.expression_rules.specs.Statement.{axis}
+use Rattle.syntax_tree.specs.Statement.{axis}
 use Rattle.statement_walk.specs.Heads.{indexed}
 use Rattle.hpf_base.specs.FirstBreach.{earlier, least}
-use Rattle.expression_rules.specs.Statement.{assignments_of}
+use Rattle.syntax_tree.specs.Statement.{assignments_of}
 use Rattle.statement_walk.proofs.statements.walk_indexed.Given as goal
 
 abbrev pub invariant-loop-stmt : goal.invariant-loop-stmt

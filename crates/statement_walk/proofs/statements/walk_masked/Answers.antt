@@ -1,6 +1,6 @@
-use Rattle.expression_rules.specs.Expression.{expression}
+use Rattle.syntax_tree.specs.Expression.{expression}
 use Rattle.statement_walk.specs.Heads.{masked}
-use Rattle.expression_rules.specs.Statement.{assignments_in, assignments_of}
+use Rattle.syntax_tree.specs.Statement.{assignments_in, assignments_of}
 use Rattle.expression_rules.proofs.Turns.{first_next}
 use Rattle.statement_walk.proofs.WalkSteps.{masked_step}
 use Rattle.statement_walk.proofs.statements.walk_masked.Goals as goal

@@ -1,9 +1,9 @@
 use Rattle.std.proofs.Common.{◌≡◌, drop}
 use Rattle.std.specs.List.{flat_map}
-use Rattle.expression_rules.specs.Expression.{expression}
+use Rattle.syntax_tree.specs.Expression.{expression}
 use Rattle.statement_walk.specs.Heads.{masked}
 use Rattle.hpf_base.specs.FirstBreach.{earlier, least}
-use Rattle.expression_rules.specs.Statement.{assignments_of}
+use Rattle.syntax_tree.specs.Statement.{assignments_of}
 use Rattle.statement_walk.proofs.statements.walk_masked.Given as goal
 
 abbrev pub invariant-loop-stmt : goal.invariant-loop-stmt
