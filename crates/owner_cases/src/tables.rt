@@ -48,6 +48,7 @@ pub fn write_steps(alloc: Global, out: &mut String, written: &str) -> Result<(),
 }
 
 /// In how many steps a table is built, and how many offsets it has.
+#[derive(Clone, Copy)]
 struct Counted {
     steps: u64,
     offsets: u64,
