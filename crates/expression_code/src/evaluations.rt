@@ -24,8 +24,8 @@ pub fn own_evaluation(
 {
     Ok(Evaluation {
         line,
-        form: form_of(alloc, b, t)?,
         over: own_space(alloc, b, t)?,
+        form: form_of(alloc, b, t)?,
     })
 }
 

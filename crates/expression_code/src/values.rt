@@ -2,6 +2,7 @@
 
 ghost use Rattle.std.specs.Prelude.{◌≡◌, ◌+◌, IfOk};
 ghost use Rattle.program_code.specs.ExpressionCode.{all_slots_of, flat_of, flats_of, form_of, forms_of, operated_flat, subs_of};
+ghost use Rattle.node_code.specs.Flat.{Operated};
 ghost use Rattle.node_code.specs.Forms.{OperationForm, SectionForm};
 ghost use Rattle.node_code.specs.Texts.{flat, form, sub, subs};
 ghost use Rattle.node_code.specs.Texts as text;
@@ -40,8 +41,21 @@ fn operated_flat(alloc: Global, b: usize, op: Op, operands: &[Term]) -> Result<F
     if can_divide(op) {
         Ok(Flat::Slot(plus(b, all_slots_of(operands)?)?))
     } else {
-        Ok(Flat::Operated(op, flats_of(alloc, b, operands)?))
+        operated(alloc, b, op, operands)
     }
+}
+
+/// An operator with its operands after their code.
+#[cycle(flat)]
+pub(crate) fn operated(
+    alloc: Global,
+    b: usize,
+    op: Op,
+    operands: &[Term],
+) -> Result<Flat, OutOfMemory>
+    ensures { IfOk result (λ f. flat f ≡ Operated op (flats_of b (terms_of operands.now))) }
+{
+    Ok(Flat::Operated(op, flats_of(alloc, b, operands)?))
 }
 
 /// Those of scalar expressions, in order.

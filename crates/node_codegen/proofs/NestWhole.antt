@@ -1,13 +1,10 @@
 -- The code of a whole nest, by that of its parts.
 use Rattle.std.proofs.Common.{◌≡◌, ℕ, ◌+◌, ◌*◌, List, [], ◌∷◌, ◌++◌, length, map, append_assoc, refl, ap, ◌∙◌}
-use Rattle.std.proofs.lemmas.List.{map-append}
 use Rattle.array_meaning.specs.Statements.{Block, Loop, Nest, Outermost}
 use Rattle.resolved_program.specs.declared.statements.Statement.{Statement as HeldStatement}
 use Rattle.resolved_program.specs.Resolved.{block_of}
 use Rattle.node_code.specs.Forms.{SubAlong}
-use Rattle.node_code.specs.declared.instruction.Instruction.{Instruction as HeldInstruction}
 use Rattle.node_code.specs.Instructions.{Instruction}
-use Rattle.node_code.specs.Texts.{instruction, instructions}
 use Rattle.program_code.specs.NestInstructions.{nest_instructions}
 use Rattle.program_code.specs.NestCode.{along, finals, indices_code, inner_bounds, nest_code, nest_rows, nest_slots, plain, stored, test_in, text_in, trips_code}
 use Rattle.program_code.specs.StatementCode.{marked_code, marked_copies, marked_slots}
@@ -76,11 +73,3 @@ nest_is n line nest body v pc w count from b after end bounds trips statements i
     all ∙ append_assoc bounds trips (statements ++ indices)
     ∙ (λ i. first i ++ ((over ∙ ap (λ p. trips_code line v p nest.loops) behind) i
     ++ (made i ++ (shown ∙ ap (λ p. indices_code line v p nest.loops) (last ∙ (λ i. behind i + 3 * many i))) i)))
-
--- lists that were put after others
-pub joined_thrice : (a b c d ab abc abcd : List HeldInstruction) → ab ≡ a ++ b → abc ≡ ab ++ c → abcd ≡ abc ++ d →
-    instructions abcd ≡ (instructions a ++ instructions b) ++ (instructions c ++ instructions d)
-joined_thrice a b c d ab abc abcd first second third =
-    ap instructions third ∙ map-append instruction abc d
-    ∙ ap (λ l. l ++ instructions d) (ap instructions second ∙ map-append instruction ab c ∙ ap (λ l. l ++ instructions c) (ap instructions first ∙ map-append instruction a b))
-    ∙ append_assoc (instructions a ++ instructions b) (instructions c) (instructions d)

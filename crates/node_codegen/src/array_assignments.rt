@@ -1,6 +1,6 @@
 //! Array assignments (Fortran 95, 7.5.1.5), by themselves and under the mask of a WHERE.
 
-ghost use Rattle.std.specs.Prelude.{◌≡◌, ◌+◌, [], ◌∷◌, ◌++◌, None, Some, IfOk};
+ghost use Rattle.std.specs.Prelude.{◌≡◌, ◌+◌, [], ◌∷◌, ◌++◌, None, Some, IfOk, OnOk};
 ghost use Rattle.node_code.specs.Instructions.{Limits, Par, Verdict};
 ghost use Rattle.node_code.specs.Texts as text;
 ghost use Rattle.node_code.specs.Texts.{instructions, when};
@@ -8,9 +8,8 @@ ghost use Rattle.resolved_program.specs.Resolved.{subscripts_of, term};
 ghost use Rattle.program_code.specs.ExpressionCode.{first_subs, form_of, or_no_sub, parts_code, subscripts_code, subscripts_slots};
 ghost use Rattle.program_code.specs.StatementCode.{assignment, assignment_code};
 
-use crate::sequences::{with_last, with_more};
 use expression_code::{
-    form_of, own_space, parts_code, plus, subs_of, subscripts_code, subscripts_slots,
+    form_of, joined, own_space, parts_code, plus, subs_of, subscripts_code, subscripts_slots,
 };
 use hpf_base::OutOfMemory;
 use node_code::{Assignment, Instruction, When};
@@ -28,30 +27,52 @@ pub(crate) fn assignment_code(
 ) -> Result<Vec<Instruction>, OutOfMemory>
     ensures { IfOk result (λ v. instructions v.items ≡ assignment_code line b array (subscripts_of subscripts.now) (term right.now) None) }
 {
-    let limits = assignment(alloc, line, b, array, subscripts, right)?;
-    let stored = assignment(alloc, line, b, array, subscripts, right)?;
-    let parts = right_code(alloc, line, b, subscripts, right)?;
-    let after = with_stores(parts, limits, stored)?;
-    with_more(subscripts_code(alloc, line, b, subscripts)?, after)
+    let mut code = subscripts_code(alloc, line, b, subscripts)?;
+    joined(&mut code, right_code(alloc, line, b, subscripts, right)?)?;
+    push_stores(alloc, &mut code, line, b, array, subscripts, right)?;
+    Ok(code)
 }
 
-/// The code of an assignment of a WHERE, whose mask has its slots from `free` on.
-pub(crate) fn masked_assignment_code(
+/// Puts the stores of an array assignment, once its limits are kept.
+fn push_stores(
     alloc: Global,
+    code: &mut Vec<Instruction>,
+    line: u32,
+    b: usize,
+    array: usize,
+    subscripts: &[SectionSubscript],
+    right: &Term,
+) -> Result<(), OutOfMemory>
+    ensures { OnOk result (instructions code.new.items ≡ instructions code.old.items
+        ++ Limits (assignment line b array (subscripts_of subscripts.now) (term right.now) None)
+        ∷ Par (assignment line b array (subscripts_of subscripts.now) (term right.now) None)
+        ∷ Verdict ∷ []) }
+{
+    code.push(Instruction::Limits(assignment(alloc, line, b, array, subscripts, right)?))?;
+    code.push(Instruction::Par(assignment(alloc, line, b, array, subscripts, right)?))?;
+    code.push(Instruction::Verdict)?;
+    Ok(())
+}
+
+/// Puts the code of an assignment of a WHERE, whose mask has its slots from `free` on.
+pub(crate) fn add_masked_assignment(
+    alloc: Global,
+    code: &mut Vec<Instruction>,
     b: usize,
     x: &SectionAssignment,
     free: usize,
     mask: &Term,
     branch: When,
-) -> Result<Vec<Instruction>, OutOfMemory>
-    ensures { IfOk result (λ v. instructions v.items
-        ≡ assignment_code x.now.line b x.now.array (subscripts_of x.now.subscripts.items) (term x.now.right) (Some (or_no_sub (first_subs (form_of free (term mask.now))), when branch))) }
+) -> Result<(), OutOfMemory>
+    ensures { OnOk result (instructions code.new.items ≡ instructions code.old.items
+        ++ assignment_code x.now.line b x.now.array (subscripts_of x.now.subscripts.items) (term x.now.right) (Some (or_no_sub (first_subs (form_of free (term mask.now))), when branch))) }
 {
-    let limits = masked_assignment(alloc, b, x, free, mask, branch)?;
-    let stored = masked_assignment(alloc, b, x, free, mask, branch)?;
-    let parts = right_code(alloc, x.line, b, &x.subscripts, &x.right)?;
-    let after = with_stores(parts, limits, stored)?;
-    with_more(subscripts_code(alloc, x.line, b, &x.subscripts)?, after)
+    joined(code, subscripts_code(alloc, x.line, b, &x.subscripts)?)?;
+    joined(code, right_code(alloc, x.line, b, &x.subscripts, &x.right)?)?;
+    code.push(Instruction::Limits(masked_assignment(alloc, b, x, free, mask, branch)?))?;
+    code.push(Instruction::Par(masked_assignment(alloc, b, x, free, mask, branch)?))?;
+    code.push(Instruction::Verdict)?;
+    Ok(())
 }
 
 /// The code of a right side, whose slots stand after those of the left side.
@@ -67,20 +88,6 @@ fn right_code(
     parts_code(alloc, line, plus(b, subscripts_slots(subscripts)?)?, right)
 }
 
-/// Code with the stores of an assignment after it, once its limits are kept. The two are the same assignment.
-fn with_stores(
-    mut code: Vec<Instruction>,
-    limits: Assignment,
-    stored: Assignment,
-) -> Result<Vec<Instruction>, OutOfMemory>
-    ensures { IfOk result (λ v. instructions v.items ≡ instructions code.items ++ Limits (text.assignment limits) ∷ Par (text.assignment stored) ∷ Verdict ∷ []) }
-{
-    code.push(Instruction::Limits(limits))?;
-    code.push(Instruction::Par(stored))?;
-    code.push(Instruction::Verdict)?;
-    Ok(code)
-}
-
 /// An assignment over its left side's own space.
 fn assignment(
     alloc: Global,
@@ -92,16 +99,13 @@ fn assignment(
 ) -> Result<Assignment, OutOfMemory>
     ensures { IfOk result (λ p. text.assignment p ≡ assignment line b array (subscripts_of subscripts.now) (term right.now) None) }
 {
-    let left = subs_of(alloc, b, subscripts)?;
-    let over = subs_of(alloc, b, subscripts)?;
     let b1 = plus(b, subscripts_slots(subscripts)?)?;
-    let right = form_of(alloc, b1, right)?;
     Ok(Assignment {
         line,
         array,
-        left,
-        right,
-        over,
+        left: subs_of(alloc, b, subscripts)?,
+        over: subs_of(alloc, b, subscripts)?,
+        right: form_of(alloc, b1, right)?,
         mask: None,
     })
 }
@@ -118,16 +122,13 @@ fn masked_assignment(
     ensures { IfOk result (λ p. text.assignment p
         ≡ assignment x.now.line b x.now.array (subscripts_of x.now.subscripts.items) (term x.now.right) (Some (or_no_sub (first_subs (form_of free (term mask.now))), when branch))) }
 {
-    let left = subs_of(alloc, b, &x.subscripts)?;
-    let over = own_space(alloc, free, mask)?;
     let b1 = plus(b, subscripts_slots(&x.subscripts)?)?;
-    let right = form_of(alloc, b1, &x.right)?;
     Ok(Assignment {
         line: x.line,
         array: x.array,
-        left,
-        right,
-        over,
+        left: subs_of(alloc, b, &x.subscripts)?,
+        over: own_space(alloc, free, mask)?,
+        right: form_of(alloc, b1, &x.right)?,
         mask: Some(branch),
     })
 }

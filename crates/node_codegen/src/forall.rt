@@ -1,6 +1,6 @@
 //! FORALL (Fortran 95, 7.5.4).
 
-ghost use Rattle.std.specs.Prelude.{◌≡◌, IfOk, map, option_map, true};
+ghost use Rattle.std.specs.Prelude.{◌≡◌, [], ◌∷◌, ◌++◌, IfOk, OnOk, map, option_map, true};
 ghost use Rattle.array_meaning.specs.Forall.{all_subscripts};
 ghost use Rattle.node_code.specs.Instructions.{ForallLimits};
 ghost use Rattle.node_code.specs.Texts as text;
@@ -10,9 +10,8 @@ ghost use Rattle.program_code.specs.ExpressionCode.{index_flat, index_form, subs
 ghost use Rattle.program_code.specs.StatementCode as definition;
 ghost use Rattle.program_code.specs.StatementCode.{forall_assignments_code, forall_code, forall_mask_code, one_to_one_code, triplets, where_true};
 
-use crate::forall_header::{header_code, header_subs};
+use crate::forall_header::{add_header, header_subs};
 use crate::forall_subscripts::all_subscripts;
-use crate::sequences::{with_last, with_more};
 use expression_code::{all_index_flats, index_form, index_subs};
 use hpf_base::OutOfMemory;
 use node_code::{Assignment, Evaluation, Instruction, When};
@@ -31,85 +30,83 @@ pub(crate) fn forall_code(
 ) -> Result<Vec<Instruction>, OutOfMemory>
     ensures { IfOk result (λ v. instructions v.items ≡ forall_code copy line b (map control controls.now) (option_map term mask.now) (map element_assignment body.now)) }
 {
-    let header = header_code(alloc, line, b, controls)?;
-    let limits = forall_limits(alloc, line, b, controls, mask, body)?;
-    let code = with_last(header, limits)?;
-    let tests = one_to_one_code(alloc, b, controls, body)?;
-    let values = forall_mask_code(alloc, copy, line, b, controls, mask)?;
-    let branch = branch_of(copy, mask);
-    let assigned = forall_assignments_code(alloc, b, controls, branch, body)?;
-    with_more(code, with_more(tests, with_more(values, assigned)?)?)
+    let mut code = Vec::new(alloc);
+    add_header(alloc, &mut code, line, b, controls)?;
+    push_limits(alloc, &mut code, line, b, controls, mask, body)?;
+    add_tests(alloc, &mut code, b, controls, body)?;
+    add_mask(alloc, &mut code, copy, line, b, controls, mask)?;
+    add_assignments(alloc, &mut code, b, controls, branch_of(copy, mask), body)?;
+    Ok(code)
 }
 
-/// The limits of its space and of all its subscripts.
-fn forall_limits(
+/// Puts the limits of its space and of all its subscripts.
+fn push_limits(
     alloc: Global,
+    code: &mut Vec<Instruction>,
     line: u32,
     b: usize,
     controls: &[Control],
     mask: &Option<Term>,
     body: &[ElementAssignment],
-) -> Result<Instruction, OutOfMemory>
-    ensures { IfOk result (λ i. text.instruction i ≡ ForallLimits line (subs_of b (triplets (map control controls.now))) (map index_flat (all_subscripts (option_map term mask.now) (map element_assignment body.now)))) }
+) -> Result<(), OutOfMemory>
+    ensures { OnOk result (instructions code.new.items ≡ instructions code.old.items
+        ++ ForallLimits line (subs_of b (triplets (map control controls.now))) (map index_flat (all_subscripts (option_map term mask.now) (map element_assignment body.now))) ∷ []) }
 {
-    let over = header_subs(alloc, b, controls)?;
-    let subscripts = all_subscripts(alloc, mask, body)?;
-    Ok(Instruction::ForallLimits {
+    code.push(Instruction::ForallLimits {
         line,
-        over,
-        subscripts,
-    })
+        over: header_subs(alloc, b, controls)?,
+        subscripts: all_subscripts(alloc, mask, body)?,
+    })?;
+    Ok(())
 }
 
-/// A test of each assignment, that it is one to one.
-fn one_to_one_code(
+/// Puts a test of each assignment, that it is one to one.
+fn add_tests(
     alloc: Global,
+    code: &mut Vec<Instruction>,
     b: usize,
     controls: &[Control],
     body: &[ElementAssignment],
-) -> Result<Vec<Instruction>, OutOfMemory>
-    ensures { IfOk result (λ v. instructions v.items ≡ one_to_one_code (subs_of b (triplets (map control controls.now))) (map element_assignment body.now)) }
+) -> Result<(), OutOfMemory>
+    ensures { OnOk result (instructions code.new.items
+        ≡ instructions code.old.items ++ one_to_one_code (subs_of b (triplets (map control controls.now))) (map element_assignment body.now)) }
 {
-    let mut code = Vec::new(alloc);
     for x in body {
-        let over = header_subs(alloc, b, controls)?;
-        let left = all_index_flats(alloc, &x.subscripts)?;
         code.push(Instruction::OneToOne {
             line: x.line,
-            over,
-            left,
+            over: header_subs(alloc, b, controls)?,
+            left: all_index_flats(alloc, &x.subscripts)?,
         })?;
     }
-    Ok(code)
+    Ok(())
 }
 
-/// The values of the mask into the copy.
-fn forall_mask_code(
+/// Puts the values of the mask into the copy.
+fn add_mask(
     alloc: Global,
+    code: &mut Vec<Instruction>,
     copy: usize,
     line: u32,
     b: usize,
     controls: &[Control],
     mask: &Option<Term>,
-) -> Result<Vec<Instruction>, OutOfMemory>
-    ensures { IfOk result (λ v. instructions v.items ≡ forall_mask_code copy line (subs_of b (triplets (map control controls.now))) (option_map term mask.now)) }
+) -> Result<(), OutOfMemory>
+    ensures { OnOk result (instructions code.new.items
+        ≡ instructions code.old.items ++ forall_mask_code copy line (subs_of b (triplets (map control controls.now))) (option_map term mask.now)) }
 {
     match mask {
-        None => Ok(Vec::new(alloc)),
+        None => Ok(()),
         Some(t) => {
-            let made = mask_evaluation(alloc, line, b, controls, t)?;
-            let stored = mask_evaluation(alloc, line, b, controls, t)?;
-            Ok(vec![in alloc;
-                Instruction::MakeCopy {
-                    copy,
-                    evaluation: made,
-                },
-                Instruction::ParForallCopy {
-                    copy,
-                    evaluation: stored,
-                },
-                Instruction::Verdict,
-            ]?)
+            code.push(Instruction::MakeCopy {
+                copy,
+                evaluation: mask_evaluation(alloc, line, b, controls, t)?,
+            })?;
+            code.push(Instruction::ParForallCopy {
+                copy,
+                evaluation: mask_evaluation(alloc, line, b, controls, t)?,
+            })?;
+            code.push(Instruction::Verdict)?;
+            Ok(())
         }
     }
 }
@@ -124,9 +121,11 @@ fn mask_evaluation(
 ) -> Result<Evaluation, OutOfMemory>
     ensures { IfOk result (λ e. text.evaluation e ≡ record { line = line; form = index_form (term mask.now); over = subs_of b (triplets (map control controls.now)) }) }
 {
-    let form = index_form(alloc, mask)?;
-    let over = header_subs(alloc, b, controls)?;
-    Ok(Evaluation { line, form, over })
+    Ok(Evaluation {
+        line,
+        over: header_subs(alloc, b, controls)?,
+        form: index_form(alloc, mask)?,
+    })
 }
 
 /// Where the assignments are done: where the mask is true, if there is one.
@@ -139,23 +138,23 @@ fn branch_of(copy: usize, mask: &Option<Term>) -> Option<When>
     }
 }
 
-/// The assignments, one after another.
-fn forall_assignments_code(
+/// Puts the assignments, one after another.
+fn add_assignments(
     alloc: Global,
+    code: &mut Vec<Instruction>,
     b: usize,
     controls: &[Control],
     branch: Option<When>,
     body: &[ElementAssignment],
-) -> Result<Vec<Instruction>, OutOfMemory>
-    ensures { IfOk result (λ v. instructions v.items ≡ forall_assignments_code (subs_of b (triplets (map control controls.now))) (option_map when branch) (map element_assignment body.now)) }
+) -> Result<(), OutOfMemory>
+    ensures { OnOk result (instructions code.new.items ≡ instructions code.old.items
+        ++ forall_assignments_code (subs_of b (triplets (map control controls.now))) (option_map when branch) (map element_assignment body.now)) }
 {
-    let mut code = Vec::new(alloc);
     for x in body {
-        let one = forall_assignment(alloc, b, controls, branch, x)?;
-        code.push(Instruction::ParForall(one))?;
+        code.push(Instruction::ParForall(forall_assignment(alloc, b, controls, branch, x)?))?;
         code.push(Instruction::Verdict)?;
     }
-    Ok(code)
+    Ok(())
 }
 
 /// An assignment.
@@ -168,15 +167,12 @@ fn forall_assignment(
 ) -> Result<Assignment, OutOfMemory>
     ensures { IfOk result (λ p. text.assignment p ≡ definition.forall_assignment (subs_of b (triplets (map control controls.now))) (option_map when branch) (element_assignment x.now)) }
 {
-    let left = index_subs(alloc, &x.subscripts)?;
-    let right = index_form(alloc, &x.right)?;
-    let over = header_subs(alloc, b, controls)?;
     Ok(Assignment {
         line: x.line,
         array: x.array,
-        left,
-        right,
-        over,
+        left: index_subs(alloc, &x.subscripts)?,
+        over: header_subs(alloc, b, controls)?,
+        right: index_form(alloc, &x.right)?,
         mask: branch,
     })
 }

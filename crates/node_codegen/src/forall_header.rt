@@ -1,13 +1,12 @@
 //! The header of a FORALL (Fortran 95, 7.5.4.1), as the subscripts of a section of its space.
 
-ghost use Rattle.std.specs.Prelude.{◌≡◌, ◌+◌, [], ◌∷◌, ◌++◌, IfOk, map};
+ghost use Rattle.std.specs.Prelude.{◌≡◌, ◌+◌, [], ◌∷◌, ◌++◌, IfOk, OnOk, map};
 ghost use Rattle.node_code.specs.Instructions.{TestStride};
 ghost use Rattle.node_code.specs.Texts.{instructions, subs};
 ghost use Rattle.resolved_program.specs.Resolved.{control};
 ghost use Rattle.program_code.specs.ExpressionCode.{control_code, control_slots, subs_of, subscripts_code, subscripts_slots};
 ghost use Rattle.program_code.specs.StatementCode.{triplets};
 
-use crate::sequences::with_last;
 use expression_code::{control_code, control_slots, joined, plus};
 use hpf_base::OutOfMemory;
 use node_code::{Instruction, Sub};
@@ -43,36 +42,37 @@ pub(crate) fn header_subs(
     Ok(over)
 }
 
-/// The code of a header.
-pub(crate) fn header_code(
+/// Puts the code of a header.
+pub(crate) fn add_header(
     alloc: Global,
+    code: &mut Vec<Instruction>,
     line: u32,
     b: usize,
     controls: &[Control],
-) -> Result<Vec<Instruction>, OutOfMemory>
-    ensures { IfOk result (λ v. instructions v.items ≡ subscripts_code line b (triplets (map control controls.now))) }
+) -> Result<(), OutOfMemory>
+    ensures { OnOk result (instructions code.new.items ≡ instructions code.old.items ++ subscripts_code line b (triplets (map control controls.now))) }
 {
-    let mut code = Vec::new(alloc);
     let mut at = b;
     for c in controls {
-        joined(&mut code, index_code(alloc, line, at, c)?)?;
+        add_index(alloc, code, line, at, c)?;
         at = plus(plus(at, control_slots(c)?)?, 3)?;
     }
-    Ok(code)
+    Ok(())
 }
 
-/// The code of an index: a step of 0 is a fault where it stands.
-fn index_code(
+/// Puts the code of an index: a step of 0 is a fault where it stands.
+fn add_index(
     alloc: Global,
+    code: &mut Vec<Instruction>,
     line: u32,
     b: usize,
     c: &Control,
-) -> Result<Vec<Instruction>, OutOfMemory>
-    ensures { IfOk result (λ v. instructions v.items ≡ control_code line b (control c.now) ++ TestStride line (b + control_slots (control c.now) + 2) ∷ []) }
+) -> Result<(), OutOfMemory>
+    ensures { OnOk result (instructions code.new.items ≡ instructions code.old.items
+        ++ (control_code line b (control c.now) ++ TestStride line (b + control_slots (control c.now) + 2) ∷ [])) }
 {
     let slot = plus(plus(b, control_slots(c)?)?, 2)?;
-    with_last(
-        control_code(alloc, line, b, c)?,
-        Instruction::TestStride { line, slot },
-    )
+    joined(code, control_code(alloc, line, b, c)?)?;
+    code.push(Instruction::TestStride { line, slot })?;
+    Ok(())
 }

@@ -21,70 +21,85 @@ pub(crate) fn all_subscripts(
 ) -> Result<Vec<Flat>, OutOfMemory>
     ensures { IfOk result (λ fs. map flat fs.items ≡ map index_flat (all_subscripts (option_map term mask.now) (map element_assignment body.now))) }
 {
-    with_more(mask_subscripts(alloc, mask)?, body_subscripts(alloc, body)?)
+    let mut found = Vec::new(alloc);
+    add_mask(alloc, &mut found, mask)?;
+    add_body(alloc, &mut found, body)?;
+    Ok(found)
 }
 
-/// Those of the mask.
-fn mask_subscripts(alloc: Global, mask: &Option<Term>) -> Result<Vec<Flat>, OutOfMemory>
-    ensures { IfOk result (λ fs. map flat fs.items ≡ map index_flat (mask_subscripts (option_map term mask.now))) }
+/// Puts those of the mask after others.
+fn add_mask(alloc: Global, found: &mut Vec<Flat>, mask: &Option<Term>) -> Result<(), OutOfMemory>
+    ensures { OnOk result (map flat found.new.items ≡ map flat found.old.items ++ map index_flat (mask_subscripts (option_map term mask.now))) }
 {
     match mask {
-        None => Ok(Vec::new(alloc)),
-        Some(t) => subscripts_in(alloc, t),
+        None => Ok(()),
+        Some(t) => add_subscripts(alloc, t, found),
     }
 }
 
-/// Those of the assignments.
-fn body_subscripts(alloc: Global, body: &[ElementAssignment]) -> Result<Vec<Flat>, OutOfMemory>
-    ensures { IfOk result (λ fs. map flat fs.items ≡ map index_flat (body_subscripts (map element_assignment body.now))) }
+/// Puts those of the assignments.
+fn add_body(
+    alloc: Global,
+    found: &mut Vec<Flat>,
+    body: &[ElementAssignment],
+) -> Result<(), OutOfMemory>
+    ensures { OnOk result (map flat found.new.items ≡ map flat found.old.items ++ map index_flat (body_subscripts (map element_assignment body.now))) }
 {
-    let mut subscripts = Vec::new(alloc);
     for x in body {
-        put_all(&mut subscripts, assignment_subscripts(alloc, x)?)?;
+        add_assignment(alloc, found, x)?;
     }
-    Ok(subscripts)
+    Ok(())
 }
 
-/// Those of an assignment, the left side first.
-fn assignment_subscripts(alloc: Global, x: &ElementAssignment) -> Result<Vec<Flat>, OutOfMemory>
-    ensures { IfOk result (λ fs. map flat fs.items ≡ map index_flat (list_of (terms_of x.now.subscripts.items) ++ subscripts_in (term x.now.right))) }
+/// Puts those of an assignment, the left side first.
+fn add_assignment(
+    alloc: Global,
+    found: &mut Vec<Flat>,
+    x: &ElementAssignment,
+) -> Result<(), OutOfMemory>
+    ensures { OnOk result (map flat found.new.items
+        ≡ map flat found.old.items ++ map index_flat (list_of (terms_of x.now.subscripts.items) ++ subscripts_in (term x.now.right))) }
 {
-    with_more(
-        all_index_flats(alloc, &x.subscripts)?,
-        subscripts_in(alloc, &x.right)?,
-    )
+    add_elements(alloc, found, &x.subscripts)?;
+    add_subscripts(alloc, &x.right, found)
 }
 
-/// Those of an expression.
+/// Puts those of an expression. It comes first, since its depth is the measure.
 #[cycle(subscripts)]
-fn subscripts_in(alloc: Global, t: &Term) -> Result<Vec<Flat>, OutOfMemory>
-    ensures { IfOk result (λ fs. map flat fs.items ≡ map index_flat (subscripts_in (term t.now))) }
+fn add_subscripts(alloc: Global, t: &Term, found: &mut Vec<Flat>) -> Result<(), OutOfMemory>
+    ensures { OnOk result (map flat found.new.items ≡ map flat found.old.items ++ map index_flat (subscripts_in (term t.now))) }
 {
     match t {
-        Term::Element(_, subscripts) => all_index_flats(alloc, subscripts),
-        Term::Apply(_, operands) => subscripts_in_all(alloc, operands),
-        _ => Ok(Vec::new(alloc)),
+        Term::Element(_, subscripts) => add_elements(alloc, found, subscripts),
+        Term::Apply(_, operands) => add_all_subscripts(alloc, operands, found),
+        _ => Ok(()),
     }
 }
 
-/// Those of several expressions.
+/// Puts those of several expressions.
 #[cycle(subscripts)]
-fn subscripts_in_all(alloc: Global, terms: &[Term]) -> Result<Vec<Flat>, OutOfMemory>
-    ensures { IfOk result (λ fs. map flat fs.items ≡ map index_flat (subscripts_in_all (terms_of terms.now))) }
+fn add_all_subscripts(
+    alloc: Global,
+    terms: &[Term],
+    found: &mut Vec<Flat>,
+) -> Result<(), OutOfMemory>
+    ensures { OnOk result (map flat found.new.items ≡ map flat found.old.items ++ map index_flat (subscripts_in_all (terms_of terms.now))) }
 {
-    let mut subscripts = Vec::new(alloc);
     for t in terms {
-        put_all(&mut subscripts, subscripts_in(alloc, t)?)?;
+        add_subscripts(alloc, t, found)?;
     }
-    Ok(subscripts)
+    Ok(())
 }
 
-/// Subscripts after others.
-fn with_more(mut subscripts: Vec<Flat>, more: Vec<Flat>) -> Result<Vec<Flat>, OutOfMemory>
-    ensures { IfOk result (λ fs. map flat fs.items ≡ map flat subscripts.items ++ map flat more.items) }
+/// Puts the subscripts of an element.
+fn add_elements(
+    alloc: Global,
+    found: &mut Vec<Flat>,
+    subscripts: &[Term],
+) -> Result<(), OutOfMemory>
+    ensures { OnOk result (map flat found.new.items ≡ map flat found.old.items ++ map index_flat (list_of (terms_of subscripts.now))) }
 {
-    put_all(&mut subscripts, more)?;
-    Ok(subscripts)
+    put_all(found, all_index_flats(alloc, subscripts)?)
 }
 
 /// Puts subscripts after others.

@@ -1,13 +1,13 @@
 //! IF (Fortran 95, 8.1.2).
 
-ghost use Rattle.std.specs.Prelude.{◌≡◌, ◌+◌, [], ◌∷◌, ◌++◌, IfOk, length};
+ghost use Rattle.std.specs.Prelude.{◌≡◌, ◌+◌, [], ◌∷◌, ◌++◌, IfOk, OnOk, length};
 ghost use Rattle.node_code.specs.Instructions.{JumpIfZero, Set};
 ghost use Rattle.node_code.specs.Texts.{instructions};
 ghost use Rattle.resolved_program.specs.Resolved.{term};
 ghost use Rattle.program_code.specs.ExpressionCode.{code_of, flat_of, slots_of};
 ghost use Rattle.node_codegen.specs.Arms.{arms_before, codes, jumping_to};
 
-use crate::sequences::{place_after, with_last, with_more};
+use crate::sequences::{place_past, size, with_last};
 use expression_code::{code_of, flat_of, joined, plus, slots_of};
 use hpf_base::OutOfMemory;
 use node_code::Instruction;
@@ -32,30 +32,33 @@ pub(crate) fn condition_code(
     ensures { IfOk result (λ v. instructions v.items ≡ code_of line b (term condition.now) ++ Set line (b + slots_of (term condition.now)) (flat_of b (term condition.now)) ∷ []) }
 {
     let slot = plus(b, slots_of(condition)?)?;
-    let value = flat_of(alloc, b, condition)?;
     with_last(
         code_of(alloc, line, b, condition)?,
-        Instruction::Set { line, slot, value },
+        Instruction::Set {
+            line,
+            slot,
+            value: flat_of(alloc, b, condition)?,
+        },
     )
 }
 
-/// An arm, by the code of its condition and that of its body, which stands one place after that: where the slot is 0, the arm and its
-/// jump are passed over.
-pub(crate) fn arm_code(
+/// Puts the code of an arm's body after that of its condition, which stands at a place, and one place after that: where the slot is 0,
+/// the arm and its jump are passed over.
+pub(crate) fn add_arm(
+    code: &mut Vec<Instruction>,
     pc: usize,
     slot: usize,
-    condition: Vec<Instruction>,
     body: Vec<Instruction>,
-) -> Result<Vec<Instruction>, OutOfMemory>
-    ensures { IfOk result (λ v. instructions v.items ≡ instructions condition.items ++ JumpIfZero (pc + length condition.items + 1 + length body.items + 1) slot ∷ instructions body.items) }
+) -> Result<(), OutOfMemory>
+    ensures { OnOk result (instructions code.new.items
+        ≡ instructions code.old.items ++ JumpIfZero (pc + length code.old.items + 1 + length body.items + 1) slot ∷ instructions body.items) }
 {
-    let inside = plus(place_after(pc, &condition)?, 1)?;
-    let after = plus(place_after(inside, &body)?, 1)?;
-    let jump = Instruction::JumpIfZero {
+    let after = place_past(place_past(pc, code)?, &body)?;
+    code.push(Instruction::JumpIfZero {
         target: after,
         slot,
-    };
-    with_more(with_last(condition, jump)?, body)
+    })?;
+    joined(code, body)
 }
 
 /// An IF, by the codes of its arms and that of ELSE, which stands after them.
@@ -66,23 +69,31 @@ pub(crate) fn if_code(
 ) -> Result<Vec<Instruction>, OutOfMemory>
     ensures { IfOk result (λ v. instructions v.items ≡ arms_before arms.after (codes arms.codes.items) (λ pc. instructions other.items)) }
 {
-    let end = place_after(arms.after, &other)?;
-    let code = arms_jumping(alloc, end, arms.codes)?;
-    with_more(code, other)
+    let mut code = Vec::new(alloc);
+    add_arms(&mut code, arms, size(&other))?;
+    joined(&mut code, other)?;
+    Ok(code)
 }
 
-/// Codes, each with a jump to the end after it.
+/// Puts the codes of arms, each with a jump to the end, which stands so many places after them.
+fn add_arms(code: &mut Vec<Instruction>, arms: ArmCodes, count: usize) -> Result<(), OutOfMemory>
+    ensures { OnOk result (instructions code.new.items ≡ instructions code.old.items ++ jumping_to (arms.after + count) (codes arms.codes.items)) }
+{
+    let end = plus(arms.after, count)?;
+    arms_jumping(code, end, arms.codes)
+}
+
+/// Puts codes, each with a jump to the end after it.
 fn arms_jumping(
-    alloc: Global,
+    code: &mut Vec<Instruction>,
     end: usize,
     arms: Vec<Vec<Instruction>>,
-) -> Result<Vec<Instruction>, OutOfMemory>
-    ensures { IfOk result (λ v. instructions v.items ≡ jumping_to end (codes arms.items)) }
+) -> Result<(), OutOfMemory>
+    ensures { OnOk result (instructions code.new.items ≡ instructions code.old.items ++ jumping_to end (codes arms.items)) }
 {
-    let mut code = Vec::new(alloc);
     for c in arms {
-        joined(&mut code, c)?;
+        joined(code, c)?;
         code.push(Instruction::Jump { target: end })?;
     }
-    Ok(code)
+    Ok(())
 }

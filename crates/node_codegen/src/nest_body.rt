@@ -1,21 +1,22 @@
 //! The statements of the innermost block of a nest, one after the other.
 
-ghost use Rattle.std.specs.Prelude.{◌≡◌, ◌+◌, [], ◌∷◌, ◌++◌, None, Some, IfOk, pos};
-ghost use Rattle.program_code.specs.NestCode.{PlainArms, bounds_in, plain, plain_arms, plain_else};
-ghost use Rattle.program_code.specs.NestInstructions.{loop_instructions};
-ghost use Rattle.node_code.specs.Flat.{Int};
-ghost use Rattle.node_code.specs.Instructions.{MakeCopies};
+ghost use Rattle.std.specs.Prelude.{◌≡◌, ◌+◌, [], ◌∷◌, ◌++◌, Some, IfOk, OnOk, pos};
+ghost use Rattle.op_tables.specs.declared.op.Op.TheVariants as operator;
+ghost use Rattle.program_code.specs.NestCode.{PlainArms, bounds_code, bounds_in, plain, plain_arms, plain_else};
+ghost use Rattle.program_code.specs.NestInstructions.{count_nest, loop_instructions};
+ghost use Rattle.node_code.specs.Flat.{AndFlat, Int, NoFlat, Operated, Slot};
+ghost use Rattle.node_code.specs.Instructions.{Jump, JumpIfZero, MakeCopies, Set, Trips};
 ghost use Rattle.node_code.specs.Texts.{instruction, instructions};
-ghost use Rattle.resolved_program.specs.Resolved.{arms_of, block_of, loop_of, statement, term};
+ghost use Rattle.resolved_program.specs.Resolved.{arms_of, block_of, loop_of, statement};
 ghost use Rattle.node_codegen.specs.NestNames.{arms_by, body_by, over_by};
 ghost use Rattle.node_codegen.specs.NestTexts.{IsArmCode, IsTextCode, arm_body, arm_test};
 
-use crate::loops::{next_turn, set};
+use crate::loops::{add_next_turn, set};
 use crate::nest_counts::{block_conditions, is_bare, statement_conditions};
-use crate::nest_loops::loop_bounds;
+use crate::nest_loops::add_loop_bounds;
 use crate::nest_names::NestNames;
 use crate::nest_statements::{element_text, making, scalar_text, setting_else, testing};
-use crate::sequences::{place_after, with_last, with_more};
+use crate::sequences::{put_at, size, with_more};
 use expression_code::{joined, plus};
 use hpf_base::OutOfMemory;
 use node_code::{Flat, Instruction};
@@ -51,10 +52,10 @@ pub(crate) fn body_code(
     let mut next = k;
     let mut at = pc;
     for s in statements {
+        let following = plus(next, statement_conditions(&s.what)?)?;
         let one = statement_code(alloc, w, s.line, &s.what, guard, next, b, at)?;
-        next = plus(next, statement_conditions(&s.what)?)?;
-        at = place_after(at, &one)?;
-        joined(&mut code, one)?;
+        at = put_at(&mut code, at, one)?;
+        next = following;
     }
     Ok(code)
 }
@@ -126,11 +127,11 @@ fn arms_code(
     let mut next = k;
     let mut after = pc;
     for a in arms {
+        let following = past_arm(next, &a.body)?;
         let one = arm_code(alloc, w, a, guard, &earlier, next, b, after)?;
+        after = put_at(&mut code, after, one)?;
         earlier = with_first(alloc, next, &earlier)?;
-        next = plus(plus(next, 1)?, block_conditions(&a.body)?)?;
-        after = place_after(after, &one)?;
-        joined(&mut code, one)?;
+        next = following;
     }
     Ok(ArmsCode {
         code,
@@ -138,6 +139,13 @@ fn arms_code(
         next,
         after,
     })
+}
+
+/// The number after those of an arm with this body, whose condition has the number `k`.
+fn past_arm(k: usize, body: &[Statement]) -> Result<usize, OutOfMemory>
+    ensures { IfOk result (λ n. n ≡ k + 1 + count_nest (plain (block_of body.now))) }
+{
+    plus(plus(k, 1)?, block_conditions(body)?)
 }
 
 /// The code of an arm, whose condition has the number `k`.
@@ -155,10 +163,10 @@ fn arm_code(
     ensures { IfOk result (λ v. IsArmCode w.now (arm_test a.now) (arm_body a.now) guard earlier.now k b pc (instructions v.items)) }
 {
     let copy = plus(w.stored, k)?;
-    let test = testing(alloc, w, a.line, guard, earlier, &a.condition, copy)?;
     let inside = plus(pc, 2)?;
     let next = plus(k, 1)?;
     let body = body_code(alloc, w, &a.body, Some(k), next, b, inside)?;
+    let test = testing(alloc, w, a.line, guard, earlier, &a.condition, copy)?;
     let code = tested(alloc, w, copy, test, body)?;
     Ok(code)
 }
@@ -181,10 +189,10 @@ fn else_code(
         return Ok(Vec::new(alloc));
     }
     let copy = plus(w.stored, k)?;
-    let test = setting_else(alloc, w, guard, earlier, copy)?;
     let inside = plus(pc, 2)?;
     let next = plus(k, 1)?;
     let body = body_code(alloc, w, other, Some(k), next, b, inside)?;
+    let test = setting_else(alloc, w, guard, earlier, copy)?;
     let code = tested(alloc, w, copy, test, body)?;
     Ok(code)
 }
@@ -199,9 +207,7 @@ fn tested(
 ) -> Result<Vec<Instruction>, OutOfMemory>
     ensures { IfOk result (λ v. instructions v.items ≡ MakeCopies copy (over_by w.now) (Int (pos 0)) ∷ instruction test ∷ instructions body.items) }
 {
-    let mut code = Vec::new(alloc);
-    code.push(making(alloc, w, copy, Flat::Int(0))?)?;
-    code.push(test)?;
+    let code = vec![in alloc; making(alloc, w, copy, Flat::Int(0))?, test]?;
     with_more(code, body)
 }
 
@@ -226,12 +232,35 @@ fn inner_loop_code(
 ) -> Result<Vec<Instruction>, OutOfMemory>
     ensures { IfOk result (λ v. instructions v.items ≡ loop_instructions line (bounds_in (loop_of l.now)) b pc (instructions body.items)) }
 {
+    let after = place_behind(pc, size(&body))?;
+    let mut code = inner_head(alloc, line, l, b, after)?;
+    joined(&mut code, body)?;
+    add_inner_tail(alloc, &mut code, line, l.index, b, pc, after)?;
+    Ok(code)
+}
+
+/// The place after an inner loop at a place, whose body has so many instructions.
+fn place_behind(pc: usize, count: usize) -> Result<usize, OutOfMemory>
+    ensures { IfOk result (λ n. n ≡ pc + 5 + count + 5) }
+{
+    plus(plus(plus(pc, 5)?, count)?, 5)
+}
+
+/// What stands before the body of an inner loop.
+fn inner_head(
+    alloc: Global,
+    line: u32,
+    l: &Loop,
+    b: usize,
+    after: usize,
+) -> Result<Vec<Instruction>, OutOfMemory>
+    ensures { IfOk result (λ v. instructions v.items ≡ bounds_code line b (loop_of l.now ∷ []) ++ Set line l.now.index (Slot b) ∷ Trips line b (b + 1) (b + 2) (b + 3) after ∷ []) }
+{
     let last = plus(b, 1)?;
     let step = plus(b, 2)?;
     let left = plus(b, 3)?;
-    let inside = plus(pc, 5)?;
-    let after = plus(place_after(inside, &body)?, 5)?;
-    let mut code = loop_bounds(alloc, line, b, l)?;
+    let mut code = Vec::new(alloc);
+    add_loop_bounds(alloc, &mut code, line, b, l)?;
     code.push(set(line, l.index, Flat::Slot(b)))?;
     code.push(Instruction::Trips {
         line,
@@ -241,7 +270,30 @@ fn inner_loop_code(
         left,
         target: after,
     })?;
-    joined(&mut code, body)?;
-    joined(&mut code, next_turn(alloc, line, b, l.index, left, after)?)?;
-    with_last(code, Instruction::Jump { target: inside })
+    Ok(code)
+}
+
+/// Puts what stands after the body of an inner loop over the index of a slot.
+fn add_inner_tail(
+    alloc: Global,
+    code: &mut Vec<Instruction>,
+    line: u32,
+    index: usize,
+    b: usize,
+    pc: usize,
+    after: usize,
+) -> Result<(), OutOfMemory>
+    ensures { OnOk result (instructions code.new.items ≡ instructions code.old.items
+        ++ Set line b (Operated operator.Add (AndFlat (Slot b) (AndFlat (Slot (b + 2)) NoFlat)))
+        ∷ Set line index (Slot b)
+        ∷ JumpIfZero after (b + 3)
+        ∷ Set line (b + 3) (Operated operator.Sub (AndFlat (Slot (b + 3)) (AndFlat (Int (pos 1)) NoFlat)))
+        ∷ Jump (pc + 5)
+        ∷ []) }
+{
+    let left = plus(b, 3)?;
+    let inside = plus(pc, 5)?;
+    add_next_turn(alloc, code, line, b, index, left, after)?;
+    code.push(Instruction::Jump { target: inside })?;
+    Ok(())
 }

@@ -1,27 +1,27 @@
 //! The code of a nest of INDEPENDENT loops in the place of its loops (HPF 2.0, 5.1).
 
-ghost use Rattle.std.specs.Prelude.{◌≡◌, ◌+◌, ◌*◌, [], ◌∷◌, ℕ, List, map, pos, unwrap_or, IfOk};
+ghost use Rattle.std.specs.Prelude.{◌≡◌, ◌+◌, ◌*◌, [], ◌∷◌, ◌++◌, None, ℕ, List, length, map, pos, unwrap_or, IfOk, OnOk};
 ghost use Rattle.array_meaning.specs.Statements.{Loop as LoopMeaning, Nest as NestMeaning};
 ghost use Rattle.program_code.specs.NestCode.{indices_code, nest_code, nest_rows, nest_slots, plain, trips_code};
 ghost use Rattle.program_code.specs.StatementCode.{marked_code, marked_copies, marked_slots};
 ghost use Rattle.program_code.specs.NestInstructions.{nest_instructions};
 ghost use Rattle.node_code.specs.Flat.{AndFlat, Int, NoFlat, Operated, Slot};
-ghost use Rattle.node_code.specs.Instructions.{Instruction as Code, Trips};
+ghost use Rattle.node_code.specs.Instructions.{Instruction as Code, Trips, Verdict};
 ghost use Rattle.node_code.specs.Texts.{flat, instruction, instructions};
 ghost use Rattle.op_tables.specs.declared.op.Op.TheVariants as operator;
 ghost use Rattle.resolved_program.specs.Resolved.{block_of, loop_of, mark};
 ghost use Rattle.node_codegen.specs.NestCodes.{or_loops};
 ghost use Rattle.node_codegen.specs.NestFinals.{finals_by};
-ghost use Rattle.node_codegen.specs.NestNames.{AreNamesOf, nest_of, over_by, test_by, text_by, with_index};
+ghost use Rattle.node_codegen.specs.NestNames.{AreNamesOf, body_by, nest_of, over_by, test_by, text_by, with_index};
 
 use crate::loops::{of_two, set};
 use crate::nest_body::body_code;
 use crate::nest_counts::{block_conditions, inner_slots};
-use crate::nest_finals::{finals, finals_instructions, makes};
-use crate::nest_loops::{bounds_code, innermost, loops_slots};
+use crate::nest_finals::{add_finals, add_makes, finals};
+use crate::nest_loops::{add_bounds, innermost, loops_slots};
 use crate::nest_names::{NestNames, loop_indices, nest_names};
 use crate::nest_scalars::scalars;
-use crate::sequences::{place_after, with_more};
+use crate::sequences::{place_after, size};
 use expression_code::{joined, plus};
 use hpf_base::OutOfMemory;
 use node_code::{Flat, Instruction};
@@ -135,20 +135,46 @@ fn nest_code(
         → instructions c.items ≡ nest_code n line (nest_of nest.now (loop_of l.now) (block_of body.now.items)) (block_of inside.now.items) v pc) }
 {
     let second = plus(v, 4)?;
-    let mut code = bounds_code(alloc, w.line, second, nest.inner_loops, body)?;
-    let indices = loop_indices(alloc, nest.inner_loops, l, body)?;
-    let count = indices.len();
-    let from = plus(place_after(pc, &code)?, count)?;
     let free = plus(second, loops_slots(nest.inner_loops, body)?)?;
+    let indices = loop_indices(alloc, nest.inner_loops, l, body)?;
+    let mut code = Vec::new(alloc);
+    add_bounds(alloc, &mut code, w.line, second, nest.inner_loops, body)?;
+    let from = place_past_trips(pc, &code, &indices)?;
     let statements = statements_code(alloc, w, inside, free, from)?;
-    let after = place_after(from, &statements)?;
-    let trips = trips_code(alloc, w.line, v, after, &indices)?;
-    joined(&mut code, trips)?;
-    joined(&mut code, statements)?;
-    let end = plus(after, three_times(count)?)?;
-    let last = indices_code(alloc, w.line, v, end, &indices)?;
-    joined(&mut code, last)?;
+    add_round(alloc, &mut code, w.line, v, from, statements, &indices)?;
     Ok(code)
+}
+
+/// The place after code that stands at a place and the trips of loops, one instruction a loop.
+fn place_past_trips(
+    pc: usize,
+    code: &Vec<Instruction>,
+    indices: &[usize],
+) -> Result<usize, OutOfMemory>
+    ensures { IfOk result (λ n. n ≡ pc + length code.now.items + length indices.now) }
+{
+    plus(place_after(pc, code)?, indices.len())
+}
+
+/// Puts the trips of loops, then the code of the statements in them, which stands at a place, and then the values of the indices.
+fn add_round(
+    alloc: Global,
+    code: &mut Vec<Instruction>,
+    line: u32,
+    v: usize,
+    from: usize,
+    statements: Vec<Instruction>,
+    indices: &[usize],
+) -> Result<(), OutOfMemory>
+    ensures { OnOk result (instructions code.new.items ≡ instructions code.old.items
+        ++ (trips_code line v (from + length statements.items) (map with_index indices.now)
+        ++ (instructions statements.items ++ indices_code line v (from + length statements.items + 3 * length indices.now) (map with_index indices.now)))) }
+{
+    let after = place_after(from, &statements)?;
+    add_trips(code, line, v, after, indices)?;
+    joined(code, statements)?;
+    let end = plus(after, three_times(indices.len())?)?;
+    add_indices_code(alloc, code, line, v, end, indices)
 }
 
 /// Three times a number.
@@ -169,31 +195,49 @@ fn statements_code(
     ensures { IfOk result (λ c. instructions c.items
         ≡ nest_instructions w.now.line (over_by w.now) (text_by w.now) (test_by w.now) w.now.stored (finals_by w.now (block_of inside.now.items) 0 w.now.scalars.items) (plain (block_of inside.now.items)) b pc) }
 {
+    let conditions = block_conditions(inside)?;
     let finals = finals(alloc, w, inside)?;
-    let mut code = makes(alloc, w, &finals, block_conditions(inside)?)?;
-    let at = place_after(pc, &code)?;
-    joined(&mut code, body_code(alloc, w, inside, None, 0, b, at)?)?;
-    code.push(Instruction::Verdict)?;
-    with_more(code, finals_instructions(alloc, w.line, &finals)?)
+    let mut code = Vec::new(alloc);
+    add_makes(alloc, &mut code, w, &finals, conditions)?;
+    add_body(alloc, &mut code, w, inside, b, pc)?;
+    add_finals(&mut code, w.line, &finals)?;
+    Ok(code)
 }
 
-/// The run goes on at a target where a loop makes no trip. Each loop has four slots, those of the first one from `v` on.
-fn trips_code(
+/// Puts the statements after the copies, which stand at a place, and what asks for their faults.
+fn add_body(
     alloc: Global,
+    code: &mut Vec<Instruction>,
+    w: &NestNames,
+    inside: &Vec<Statement>,
+    b: usize,
+    pc: usize,
+) -> Result<(), OutOfMemory>
+    ensures { OnOk result (instructions code.new.items ≡ instructions code.old.items
+        ++ (body_by w.now (plain (block_of inside.now.items)) None 0 b (pc + length (instructions code.old.items)) ++ Verdict ∷ [])) }
+{
+    let at = plus(pc, size(code))?;
+    joined(code, body_code(alloc, w, inside, None, 0, b, at)?)?;
+    code.push(Instruction::Verdict)?;
+    Ok(())
+}
+
+/// Puts the trips of loops: the run goes on at a target where a loop makes no trip. Each has four slots, those of the first one from `v` on.
+fn add_trips(
+    code: &mut Vec<Instruction>,
     line: u32,
     v: usize,
     target: usize,
     indices: &[usize],
-) -> Result<Vec<Instruction>, OutOfMemory>
-    ensures { IfOk result (λ c. instructions c.items ≡ trips_code line v target (map with_index indices.now)) }
+) -> Result<(), OutOfMemory>
+    ensures { OnOk result (instructions code.new.items ≡ instructions code.old.items ++ trips_code line v target (map with_index indices.now)) }
 {
-    let mut code = Vec::new(alloc);
     let mut at = v;
     for _index in indices {
         code.push(trips(line, at, target)?)?;
         at = plus(at, 4)?;
     }
-    Ok(code)
+    Ok(())
 }
 
 /// How many trips a loop makes, by its four slots.
@@ -213,40 +257,40 @@ fn trips(line: u32, v: usize, target: usize) -> Result<Instruction, OutOfMemory>
     })
 }
 
-/// Each index has its value after the loop, and the run goes on at a target where a loop makes no trip.
-fn indices_code(
+/// Puts what gives each index its value after the loop, and the run goes on at a target where a loop makes no trip.
+fn add_indices_code(
     alloc: Global,
+    code: &mut Vec<Instruction>,
     line: u32,
     v: usize,
     target: usize,
     indices: &[usize],
-) -> Result<Vec<Instruction>, OutOfMemory>
-    ensures { IfOk result (λ c. instructions c.items ≡ indices_code line v target (map with_index indices.now)) }
+) -> Result<(), OutOfMemory>
+    ensures { OnOk result (instructions code.new.items ≡ instructions code.old.items ++ indices_code line v target (map with_index indices.now)) }
 {
-    let mut code = Vec::new(alloc);
     let mut at = v;
     for k in indices {
-        let one = index_code(alloc, line, at, target, *k)?;
+        add_index_code(alloc, code, line, at, target, *k)?;
         at = plus(at, 4)?;
-        joined(&mut code, one)?;
     }
-    Ok(code)
+    Ok(())
 }
 
-/// That of one.
-fn index_code(
+/// Puts that of one.
+fn add_index_code(
     alloc: Global,
+    code: &mut Vec<Instruction>,
     line: u32,
     v: usize,
     target: usize,
     k: usize,
-) -> Result<Vec<Instruction>, OutOfMemory>
-    ensures { IfOk result (λ c. instructions c.items ≡ indices_code line v target (with_index k ∷ [])) }
+) -> Result<(), OutOfMemory>
+    ensures { OnOk result (instructions code.new.items ≡ instructions code.old.items ++ indices_code line v target (with_index k ∷ [])) }
 {
-    let first = set(line, k, Flat::Slot(v));
-    let count = trips(line, v, target)?;
-    let last = set(line, k, value_after(alloc, v)?);
-    Ok(vec![in alloc; first, count, last]?)
+    code.push(set(line, k, Flat::Slot(v)))?;
+    code.push(trips(line, v, target)?)?;
+    code.push(set(line, k, value_after(alloc, v)?))?;
+    Ok(())
 }
 
 /// The value of an index after a loop that makes a trip, by the slots of the loop.

@@ -1,6 +1,6 @@
 //! The copies of a nest before its statements and after them.
 
-ghost use Rattle.std.specs.Prelude.{◌≡◌, ◌++◌, ℕ, map, IfOk};
+ghost use Rattle.std.specs.Prelude.{◌≡◌, ◌++◌, ℕ, map, IfOk, OnOk};
 ghost use Rattle.program_code.specs.NestInstructions.{conditions_makes, final_instruction, final_makes, finals_instructions, finals_makes};
 ghost use Rattle.node_code.specs.Texts.{instruction, instructions};
 ghost use Rattle.resolved_program.specs.Resolved.{block_of};
@@ -10,8 +10,7 @@ ghost use Rattle.node_codegen.specs.NestNames.{over_by};
 use crate::nest_names::NestNames;
 use crate::nest_scalars::{is_in, operator_in};
 use crate::nest_statements::making;
-use crate::sequences::only;
-use expression_code::{joined, plus};
+use expression_code::plus;
 use hpf_base::OutOfMemory;
 use node_code::{Flat, Instruction};
 use op_tables::Join;
@@ -69,81 +68,86 @@ fn final_of(w: &NestNames, body: &Vec<Statement>, j: usize, k: usize) -> Result<
     })
 }
 
-/// The copies at the entry: those of scalars, and those of so many stored conditions.
-pub(crate) fn makes(
+/// Puts the copies at the entry: those of scalars, and those of so many stored conditions.
+pub(crate) fn add_makes(
     alloc: Global,
+    code: &mut Vec<Instruction>,
     w: &NestNames,
     finals: &[Final],
     conditions: usize,
-) -> Result<Vec<Instruction>, OutOfMemory>
-    ensures { IfOk result (λ v. instructions v.items ≡ finals_makes w.now.line (over_by w.now) (map final finals.now) ++ conditions_makes w.now.line (over_by w.now) w.now.stored conditions) }
+) -> Result<(), OutOfMemory>
+    ensures { OnOk result (instructions code.new.items ≡ instructions code.old.items
+        ++ (finals_makes w.now.line (over_by w.now) (map final finals.now) ++ conditions_makes w.now.line (over_by w.now) w.now.stored conditions)) }
 {
-    let mut code = finals_makes(alloc, w, finals)?;
-    joined(&mut code, conditions_makes(alloc, w, conditions)?)?;
-    Ok(code)
+    add_finals_makes(alloc, code, w, finals)?;
+    add_conditions_makes(alloc, code, w, conditions)
 }
 
-/// Those of scalars.
-fn finals_makes(
+/// Puts those of scalars.
+fn add_finals_makes(
     alloc: Global,
+    code: &mut Vec<Instruction>,
     w: &NestNames,
     finals: &[Final],
-) -> Result<Vec<Instruction>, OutOfMemory>
-    ensures { IfOk result (λ v. instructions v.items ≡ finals_makes w.now.line (over_by w.now) (map final finals.now)) }
+) -> Result<(), OutOfMemory>
+    ensures { OnOk result (instructions code.new.items ≡ instructions code.old.items ++ finals_makes w.now.line (over_by w.now) (map final finals.now)) }
 {
-    let mut code = Vec::new(alloc);
     for f in finals {
-        joined(&mut code, final_makes(alloc, w, f)?)?;
+        add_final_makes(alloc, code, w, f)?;
     }
-    Ok(code)
+    Ok(())
 }
 
-/// A REDUCTION variable's copies begin with the unit, any other's with its value, and no mark is set.
-fn final_makes(alloc: Global, w: &NestNames, f: &Final) -> Result<Vec<Instruction>, OutOfMemory>
-    ensures { IfOk result (λ v. instructions v.items ≡ final_makes w.now.line (over_by w.now) (final f.now)) }
+/// Puts those of a scalar: a REDUCTION variable's copies begin with the unit, any other's with its value, and no mark is set.
+fn add_final_makes(
+    alloc: Global,
+    code: &mut Vec<Instruction>,
+    w: &NestNames,
+    f: &Final,
+) -> Result<(), OutOfMemory>
+    ensures { OnOk result (instructions code.new.items ≡ instructions code.old.items ++ final_makes w.now.line (over_by w.now) (final f.now)) }
 {
     match f {
         Final::Folds { join, row, .. } => {
-            let one = making(alloc, w, *row, Flat::Int(join.unit()))?;
-            only(alloc, one)
+            code.push(making(alloc, w, *row, Flat::Int(join.unit()))?)?;
+            Ok(())
         }
         Final::Lasts { row, mark, slot } => {
-            let copies = making(alloc, w, *row, Flat::Slot(*slot))?;
-            let marks = making(alloc, w, *mark, Flat::Int(0))?;
-            Ok(vec![in alloc; copies, marks]?)
+            code.push(making(alloc, w, *row, Flat::Slot(*slot))?)?;
+            code.push(making(alloc, w, *mark, Flat::Int(0))?)?;
+            Ok(())
         }
     }
 }
 
-/// Those of stored conditions: none holds.
-fn conditions_makes(
+/// Puts those of stored conditions: none holds.
+fn add_conditions_makes(
     alloc: Global,
+    code: &mut Vec<Instruction>,
     w: &NestNames,
     conditions: usize,
-) -> Result<Vec<Instruction>, OutOfMemory>
-    ensures { IfOk result (λ v. instructions v.items ≡ conditions_makes w.now.line (over_by w.now) w.now.stored conditions) }
+) -> Result<(), OutOfMemory>
+    ensures { OnOk result (instructions code.new.items ≡ instructions code.old.items ++ conditions_makes w.now.line (over_by w.now) w.now.stored conditions) }
 {
-    let mut code = Vec::new(alloc);
     for k in 0..conditions {
         let copy = plus(w.stored, k)?;
         code.push(making(alloc, w, copy, Flat::Int(0))?)?;
     }
-    Ok(code)
+    Ok(())
 }
 
-/// The values of scalars after a nest.
-pub(crate) fn finals_instructions(
-    alloc: Global,
+/// Puts the values of scalars after a nest.
+pub(crate) fn add_finals(
+    code: &mut Vec<Instruction>,
     line: u32,
     finals: &[Final],
-) -> Result<Vec<Instruction>, OutOfMemory>
-    ensures { IfOk result (λ v. instructions v.items ≡ finals_instructions line (map final finals.now)) }
+) -> Result<(), OutOfMemory>
+    ensures { OnOk result (instructions code.new.items ≡ instructions code.old.items ++ finals_instructions line (map final finals.now)) }
 {
-    let mut code = Vec::new(alloc);
     for f in finals {
         code.push(final_instruction(f))?;
     }
-    Ok(code)
+    Ok(())
 }
 
 /// That of a scalar.

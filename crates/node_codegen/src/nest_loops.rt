@@ -9,7 +9,6 @@ ghost use Rattle.resolved_program.specs.InnerLoops.{innermost_in, loops_of};
 ghost use Rattle.node_codegen.specs.NestLoops.{innermost_from, loops_from};
 
 use crate::nest_steps::step_flat;
-use crate::sequences::with_more;
 use expression_code::{index_flat, plus};
 use hpf_base::OutOfMemory;
 use node_code::Instruction;
@@ -92,42 +91,42 @@ pub(crate) fn loops_slots(n: usize, body: &Vec<Statement>) -> Result<usize, OutO
     }
 }
 
-/// The bounds of so many loops, in slots from `v` on.
-pub(crate) fn bounds_code(
+/// Puts the bounds of so many loops, in slots from `v` on, after other code.
+pub(crate) fn add_bounds(
     alloc: Global,
+    code: &mut Vec<Instruction>,
     line: u32,
     v: usize,
     n: usize,
     body: &Vec<Statement>,
-) -> Result<Vec<Instruction>, OutOfMemory>
-    ensures { IfOk result (λ c. instructions c.items ≡ bounds_code line v (inner_loops n (block_of body.now.items))) }
+) -> Result<(), OutOfMemory>
+    ensures { OnOk result (instructions code.new.items ≡ instructions code.old.items ++ bounds_code line v (inner_loops n (block_of body.now.items))) }
 {
     if n == 0 {
-        return Ok(Vec::new(alloc));
+        return Ok(());
     }
     match inner_loop(body) {
         Some(inner) => {
-            let own = loop_bounds(alloc, line, v, inner.head)?;
             let next = plus(v, 4)?;
-            let more = bounds_code(alloc, line, next, n - 1, inner.body)?;
-            with_more(own, more)
+            add_loop_bounds(alloc, code, line, v, inner.head)?;
+            add_bounds(alloc, code, line, next, n - 1, inner.body)
         }
-        None => Ok(Vec::new(alloc)),
+        None => Ok(()),
     }
 }
 
-/// The bounds of a loop, in three slots from `v` on.
-pub(crate) fn loop_bounds(
+/// Puts the bounds of a loop, in three slots from `v` on.
+pub(crate) fn add_loop_bounds(
     alloc: Global,
+    code: &mut Vec<Instruction>,
     line: u32,
     v: usize,
     l: &Loop,
-) -> Result<Vec<Instruction>, OutOfMemory>
-    ensures { IfOk result (λ c. instructions c.items ≡ bounds_code line v (loop_of l.now ∷ [])) }
+) -> Result<(), OutOfMemory>
+    ensures { OnOk result (instructions code.new.items ≡ instructions code.old.items ++ bounds_code line v (loop_of l.now ∷ [])) }
 {
     let last = plus(v, 1)?;
     let step = plus(v, 2)?;
-    let mut code = Vec::new(alloc);
     code.push(Instruction::Set {
         line,
         slot: v,
@@ -143,5 +142,5 @@ pub(crate) fn loop_bounds(
         slot: step,
         value: step_flat(alloc, &l.control.step)?,
     })?;
-    Ok(code)
+    Ok(())
 }

@@ -51,9 +51,10 @@ pub(crate) fn nest_names(
 ) -> Result<NestNames, OutOfMemory>
     ensures { IfOk result (AreNamesOf names line (nest_of nest.now (loop_of outermost.now) (block_of body.now.items)) (block_of inside.now.items) v) }
 {
+    let conditions = block_conditions(inside)?;
     let scalars = scalars(alloc, names, inside)?;
     let stored = plus(names, scalars.len())?;
-    let marks = plus(stored, block_conditions(inside)?)?;
+    let marks = plus(stored, conditions)?;
     let mut reduction = Vec::new(alloc);
     reduction.extend_from_slice(&nest.reduction)?;
     let mut indices = loop_indices(alloc, nest.inner_loops, outermost, body)?;

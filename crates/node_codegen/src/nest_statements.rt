@@ -1,9 +1,9 @@
 //! The parallel statements of a nest of INDEPENDENT loops.
 
-ghost use Rattle.std.specs.Prelude.{◌≡◌, ◌+◌, [], false, map, IfOk, pos};
+ghost use Rattle.std.specs.Prelude.{◌≡◌, ◌+◌, ◌++◌, [], false, map, IfOk, OnOk, pos};
 ghost use Rattle.nest_syntax.specs.Assigning.{ToElement, ToScalar};
 ghost use Rattle.nest_syntax.specs.Asked.{guard_asked, tested_asked};
-ghost use Rattle.program_code.specs.NestInstructions.{setting_else, setting_mark, testing, whens_of};
+ghost use Rattle.program_code.specs.NestInstructions.{mark_instructions, setting_else, setting_mark, testing, whens_of};
 ghost use Rattle.node_code.specs.declared.nest.NestRole.TheVariants.{Assigns};
 ghost use Rattle.node_code.specs.Flat.{Int};
 ghost use Rattle.node_code.specs.Forms.{FlatForm};
@@ -11,7 +11,7 @@ ghost use Rattle.node_code.specs.Instructions as code;
 ghost use Rattle.node_code.specs.NestStatements.{CopyLeft};
 ghost use Rattle.node_code.specs.Texts.{flat, form, instruction, instructions, nest_left, when};
 ghost use Rattle.resolved_program.specs.Resolved.{term, terms_of};
-ghost use Rattle.node_codegen.specs.NestNames.{over_by, test_by, texts_by};
+ghost use Rattle.node_codegen.specs.NestNames.{mark_by, over_by, test_by, text_by, texts_by};
 
 use crate::nest_names::NestNames;
 use crate::nest_terms::{NestTerm, nest_subs, nest_term};
@@ -28,14 +28,13 @@ use std::alloc::Global;
 fn guard_whens(alloc: Global, stored: usize, guard: Option<usize>) -> Result<Vec<When>, OutOfMemory>
     ensures { IfOk result (λ ws. map when ws.items ≡ whens_of stored (guard_asked guard)) }
 {
-    let mut whens = Vec::new(alloc);
-    if let Some(k) = guard {
-        whens.push(When {
-            copy: plus(stored, k)?,
-            value: true,
-        })?;
+    match guard {
+        None => Ok(Vec::new(alloc)),
+        Some(k) => {
+            let copy = plus(stored, k)?;
+            Ok(vec![in alloc; When { copy, value: true }]?)
+        }
     }
-    Ok(whens)
 }
 
 /// Where the condition of an arm is evaluated: the guard of the IF holds, and no condition of an earlier arm.
@@ -77,14 +76,32 @@ pub(crate) fn scalar_text(
 ) -> Result<Vec<Instruction>, OutOfMemory>
     ensures { IfOk result (λ v. instructions v.items ≡ texts_by w.now guard (record { line = line; text = ToScalar k (term right.now) })) }
 {
+    let row = w.place(k)?;
     let value = nest_term(alloc, w, right)?;
-    let left = NestLeft::Copy(w.place(k)?);
-    let mut code = Vec::new(alloc);
-    code.push(assigning(alloc, w, line, guard, left, value)?)?;
-    if let Some(row) = w.mark(k)? {
-        code.push(setting_mark(alloc, w, guard, row)?)?;
-    }
+    let one = assigning(alloc, w, line, guard, NestLeft::Copy(row), value)?;
+    let mut code = only(alloc, one)?;
+    push_mark(alloc, &mut code, w, guard, k)?;
     Ok(code)
+}
+
+/// Puts the mark of a scalar that is assigned, if it has one.
+fn push_mark(
+    alloc: Global,
+    code: &mut Vec<Instruction>,
+    w: &NestNames,
+    guard: Option<usize>,
+    k: usize,
+) -> Result<(), OutOfMemory>
+    ensures { OnOk result (instructions code.new.items
+        ≡ instructions code.old.items ++ mark_instructions w.now.line (over_by w.now) (text_by w.now) (test_by w.now) w.now.stored guard (mark_by w.now k)) }
+{
+    match w.mark(k)? {
+        Some(row) => {
+            code.push(setting_mark(alloc, w, guard, row)?)?;
+            Ok(())
+        }
+        None => Ok(()),
+    }
 }
 
 /// An assignment of an element.
@@ -164,9 +181,9 @@ pub(crate) fn testing(
 ) -> Result<Instruction, OutOfMemory>
     ensures { IfOk result (λ i. instruction i ≡ code.ParNest (testing (over_by w.now) (whens_of w.now.stored (tested_asked guard earlier.now)) (test_by w.now (record { line = line; text = term condition.now })) copy)) }
 {
-    let value = nest_term(alloc, w, condition)?;
     let over = w.over(alloc)?;
     let whens = tested_whens(alloc, w.stored, guard, earlier)?;
+    let value = nest_term(alloc, w, condition)?;
     Ok(Instruction::ParNest(NestStatement {
         line,
         over,

@@ -1,6 +1,6 @@
 //! The entry of a nest of INDEPENDENT loops (HPF 2.0, 5.1).
 
-ghost use Rattle.std.specs.Prelude.{◌≡◌, ◌+◌, ◌++◌, Some, IfOk};
+ghost use Rattle.std.specs.Prelude.{◌≡◌, ◌++◌, Some, IfOk};
 ghost use Rattle.array_meaning.specs.Terms.{Scalar};
 ghost use Rattle.node_code.specs.Texts.{instructions};
 ghost use Rattle.resolved_program.specs.Resolved.{block_of, loop_of, mark};
@@ -49,30 +49,28 @@ fn entry_code(
 ) -> Result<Vec<Instruction>, OutOfMemory>
     ensures { IfOk result (λ v. instructions v.items ≡ entry_code line (mark (Some nest.now) (loop_of l.now) (block_of body.now.items)) first) }
 {
+    let last = plus(first, 1)?;
     let slot = plus(first, 2)?;
-    let outermost = with_bounds(l.index, first)?;
     let nest = copied_nest(alloc, nest)?;
     let body = copied(alloc, body)?;
     let stride = Instruction::TestStride { line, slot };
     let check = Instruction::Check {
         line,
         nest,
-        outermost,
+        outermost: with_bounds(l.index, first, last, slot),
         body,
     };
     Ok(vec![in alloc; stride, check]?)
 }
 
-/// A loop over an index, whose first value, last value and step stand in three slots from `first` on.
-fn with_bounds(index: usize, first: usize) -> Result<Loop, OutOfMemory>
-    ensures { IfOk result (λ l. loop_of l ≡ record { index = index; control = record { first = Scalar first; last = Scalar (first + 1); step = Scalar (first + 2) } }) }
+/// A loop over an index, whose first value, last value and step stand in three slots.
+fn with_bounds(index: usize, first: usize, last: usize, step: usize) -> Loop
+    ensures { loop_of result ≡ record { index = index; control = record { first = Scalar first; last = Scalar last; step = Scalar step } } }
 {
-    let last = plus(first, 1)?;
-    let step = plus(first, 2)?;
     let control = Control {
         first: Term::Scalar(first),
         last: Term::Scalar(last),
         step: Term::Scalar(step),
     };
-    Ok(Loop { index, control })
+    Loop { index, control }
 }

@@ -1,23 +1,22 @@
 //! PRINT (Fortran 95, 9.4).
 
-ghost use Rattle.std.specs.Prelude.{◌≡◌, [], ◌∷◌, ◌++◌, IfOk, map};
+ghost use Rattle.std.specs.Prelude.{◌≡◌, [], ◌∷◌, ◌++◌, IfOk, OnOk, map};
 ghost use Rattle.node_code.specs.Instructions.{Print};
 ghost use Rattle.node_code.specs.Texts as text;
 ghost use Rattle.node_code.specs.Texts.{instructions};
-ghost use Rattle.resolved_program.specs.Resolved.{item, subscripts_of};
-ghost use Rattle.program_code.specs.ExpressionCode.{subs_of, subscripts_code, own_evaluation};
+ghost use Rattle.resolved_program.specs.Resolved.{item, subscripts_of, term};
+ghost use Rattle.program_code.specs.ExpressionCode.{code_of, subs_of, subscripts_code, own_evaluation};
 ghost use Rattle.node_code.specs.Forms.{SectionForm};
 ghost use Rattle.array_meaning.specs.Statements.{Elements};
 ghost use Rattle.program_code.specs.StatementCode as definition;
 ghost use Rattle.program_code.specs.StatementCode.{item_code, items_code, items_slots, print_items};
 
-use crate::sequences::with_last;
 use expression_code::{
     code_of, flat_of, joined, plus, slots_of, subs_of, subscripts_code, subscripts_slots,
 };
 use hpf_base::OutOfMemory;
 use node_code::{ArrayForm, Evaluation, Instruction, PrintItem};
-use resolved_program::{Item, SectionSubscript};
+use resolved_program::{Item, SectionSubscript, Term};
 use std::alloc::Global;
 
 /// How many slots the code of an item takes.
@@ -51,59 +50,79 @@ pub(crate) fn print_code(
 ) -> Result<Vec<Instruction>, OutOfMemory>
     ensures { IfOk result (λ v. instructions v.items ≡ items_code line b (map item items.now) ++ Print (print_items b (map item items.now)) ∷ []) }
 {
-    let code = items_code(alloc, line, b, items)?;
-    let printed = print_items(alloc, b, items)?;
-    with_last(code, Instruction::Print(printed))
-}
-
-/// The code of the items, in order.
-fn items_code(
-    alloc: Global,
-    line: u32,
-    b: usize,
-    items: &[Item],
-) -> Result<Vec<Instruction>, OutOfMemory>
-    ensures { IfOk result (λ v. instructions v.items ≡ items_code line b (map item items.now)) }
-{
     let mut code = Vec::new(alloc);
-    let mut at = b;
-    for i in items {
-        joined(&mut code, item_code(alloc, line, at, i)?)?;
-        at = plus(at, item_slots(i)?)?;
-    }
+    add_items(alloc, &mut code, line, b, items)?;
+    code.push(Instruction::Print(print_items(alloc, b, items)?))?;
     Ok(code)
 }
 
-/// The code of an item.
-fn item_code(alloc: Global, line: u32, b: usize, i: &Item) -> Result<Vec<Instruction>, OutOfMemory>
-    ensures { IfOk result (λ v. instructions v.items ≡ item_code line b (item i.now)) }
+/// Puts the code of the items, in order.
+fn add_items(
+    alloc: Global,
+    code: &mut Vec<Instruction>,
+    line: u32,
+    b: usize,
+    items: &[Item],
+) -> Result<(), OutOfMemory>
+    ensures { OnOk result (instructions code.new.items ≡ instructions code.old.items ++ items_code line b (map item items.now)) }
+{
+    let mut at = b;
+    for i in items {
+        add_item(alloc, code, line, at, i)?;
+        at = plus(at, item_slots(i)?)?;
+    }
+    Ok(())
+}
+
+/// Puts the code of an item.
+fn add_item(
+    alloc: Global,
+    code: &mut Vec<Instruction>,
+    line: u32,
+    b: usize,
+    i: &Item,
+) -> Result<(), OutOfMemory>
+    ensures { OnOk result (instructions code.new.items ≡ instructions code.old.items ++ item_code line b (item i.now)) }
 {
     match i {
-        Item::Text(_) => Ok(Vec::new(alloc)),
-        Item::Value(t) => code_of(alloc, line, b, t),
-        Item::Elements(array, subscripts) => section_code(alloc, line, b, *array, subscripts),
+        Item::Text(_) => Ok(()),
+        Item::Value(t) => add_value(alloc, code, line, b, t),
+        Item::Elements(array, subscripts) => add_section(alloc, code, line, b, *array, subscripts),
     }
 }
 
-/// The code of a section, which is tested where its item stands.
-fn section_code(
+/// Puts the code of a value.
+fn add_value(
     alloc: Global,
+    code: &mut Vec<Instruction>,
+    line: u32,
+    b: usize,
+    t: &Term,
+) -> Result<(), OutOfMemory>
+    ensures { OnOk result (instructions code.new.items ≡ instructions code.old.items ++ code_of line b (term t.now)) }
+{
+    joined(code, code_of(alloc, line, b, t)?)
+}
+
+/// Puts the code of a section, which is tested where its item stands.
+fn add_section(
+    alloc: Global,
+    code: &mut Vec<Instruction>,
     line: u32,
     b: usize,
     array: usize,
     subscripts: &[SectionSubscript],
-) -> Result<Vec<Instruction>, OutOfMemory>
-    ensures { IfOk result (λ v. instructions v.items ≡ item_code line b (Elements array (subscripts_of subscripts.now))) }
+) -> Result<(), OutOfMemory>
+    ensures { OnOk result (instructions code.new.items ≡ instructions code.old.items ++ item_code line b (Elements array (subscripts_of subscripts.now))) }
 {
-    let code = subscripts_code(alloc, line, b, subscripts)?;
-    let limits = section(alloc, line, b, array, subscripts)?;
-    let code = with_last(code, Instruction::OwnLimits(limits))?;
-    let inside = Instruction::Inside {
+    joined(code, subscripts_code(alloc, line, b, subscripts)?)?;
+    code.push(Instruction::OwnLimits(section(alloc, line, b, array, subscripts)?))?;
+    code.push(Instruction::Inside {
         line,
         array,
         subscripts: subs_of(alloc, b, subscripts)?,
-    };
-    with_last(code, inside)
+    })?;
+    Ok(())
 }
 
 /// A section as an array expression.
@@ -116,9 +135,11 @@ fn section(
 ) -> Result<Evaluation, OutOfMemory>
     ensures { IfOk result (λ e. text.evaluation e ≡ own_evaluation line (SectionForm array (subs_of b (subscripts_of subscripts.now)))) }
 {
-    let form = ArrayForm::Section(array, subs_of(alloc, b, subscripts)?);
-    let over = subs_of(alloc, b, subscripts)?;
-    Ok(Evaluation { line, form, over })
+    Ok(Evaluation {
+        line,
+        over: subs_of(alloc, b, subscripts)?,
+        form: ArrayForm::Section(array, subs_of(alloc, b, subscripts)?),
+    })
 }
 
 /// An item that is printed, after the code of all.

@@ -59,9 +59,7 @@ fn program_code(
 ) -> Result<Vec<Instruction>, OutOfMemory>
     ensures { IfOk result (λ v. instructions v.items ≡ program_code names (moves_by moves.now) (block_of plan.now.body.items)) }
 {
-    let mut code = Vec::new(alloc);
-    code.push(Instruction::Jump { target: 2 })?;
-    code.push(Instruction::Halt)?;
+    let mut code = vec![in alloc; Instruction::Jump { target: 2 }, Instruction::Halt]?;
     let body = block_code(alloc, names, moves, &plan.body, names, 2, 1, 1)?;
     joined(&mut code, body)?;
     with_last(code, Instruction::Jump { target: 1 })

@@ -1,6 +1,6 @@
 //! Code one after the other.
 
-ghost use Rattle.std.specs.Prelude.{◌≡◌, ◌+◌, [], ◌∷◌, ◌++◌, IfOk, length};
+ghost use Rattle.std.specs.Prelude.{◌≡◌, ◌+◌, [], ◌∷◌, ◌++◌, IfOk, OnOk, length};
 ghost use Rattle.node_code.specs.Texts.{instruction, instructions};
 
 use expression_code::{joined, plus};
@@ -30,6 +30,20 @@ pub(crate) fn with_more(
     Ok(code)
 }
 
+/// Puts code that stands at a place after other code, and gives the place after it.
+pub(crate) fn put_at(
+    code: &mut Vec<Instruction>,
+    at: usize,
+    more: Vec<Instruction>,
+) -> Result<usize, OutOfMemory>
+    ensures place { IfOk result (λ n. n ≡ at + length more.items) }
+    ensures code { OnOk result (code.new.items ≡ code.old.items ++ more.items) }
+{
+    let after = place_after(at, &more)?;
+    joined(code, more)?;
+    Ok(after)
+}
+
 /// One instruction.
 pub(crate) fn only(alloc: Global, one: Instruction) -> Result<Vec<Instruction>, OutOfMemory>
     ensures { IfOk result (λ v. instructions v.items ≡ instruction one ∷ []) }
@@ -42,4 +56,18 @@ pub(crate) fn place_after(pc: usize, code: &Vec<Instruction>) -> Result<usize, O
     ensures { IfOk result (λ n. n ≡ pc + length code.now.items) }
 {
     plus(pc, code.len())
+}
+
+/// The place after code that stands at a place and has one instruction more after it.
+pub(crate) fn place_past(pc: usize, code: &Vec<Instruction>) -> Result<usize, OutOfMemory>
+    ensures { IfOk result (λ n. n ≡ pc + length code.now.items + 1) }
+{
+    plus(place_after(pc, code)?, 1)
+}
+
+/// How many instructions code has.
+pub(crate) fn size(code: &Vec<Instruction>) -> usize
+    ensures { result ≡ length (instructions code.now.items) }
+{
+    code.len()
 }

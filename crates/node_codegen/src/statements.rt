@@ -10,15 +10,15 @@ ghost use Rattle.node_codegen.specs.Moves.{moves_by};
 use crate::array_assignments::assignment_code;
 use crate::element_assignments::{element_code, scalar_code};
 use crate::forall::forall_code;
-use crate::if_construct::{ArmCodes, arm_code, condition_code, if_code};
-use crate::loops::loop_code;
+use crate::if_construct::{ArmCodes, add_arm, condition_code, if_code};
+use crate::loops::add_loop;
 use crate::moves::{LineMoves, remap_code};
 use crate::nest_code::marked_code;
 use crate::nests::bounds_code;
 use crate::print::print_code;
-use crate::sequences::{only, place_after, with_more};
+use crate::sequences::{only, place_after, place_past, put_at, with_more};
 use crate::where_construct::where_code;
-use expression_code::{control_slots, joined, plus, slots_of};
+use expression_code::{control_slots, plus, slots_of};
 use hpf_base::OutOfMemory;
 use node_code::Instruction;
 use resolved_program::{Action, Arm, Statement};
@@ -43,8 +43,7 @@ pub(crate) fn block_code(
     let mut at = pc;
     for s in statements {
         let one = statement_code(alloc, copy, moves, s.line, &s.what, b, at, leave, again)?;
-        at = place_after(at, &one)?;
-        joined(&mut code, one)?;
+        at = put_at(&mut code, at, one)?;
     }
     Ok(code)
 }
@@ -79,15 +78,14 @@ fn statement_code(
         }
         Action::Do(nest, l, body) => {
             let first = plus(b, control_slots(&l.control)?)?;
-            let head = bounds_code(alloc, line, b, first, nest, l, body)?;
+            let mut head = bounds_code(alloc, line, b, first, nest, l, body)?;
             let at = place_after(pc, &head)?;
             match marked_code(alloc, copy, line, nest, l, body, first, at)? {
                 Some(turns) => with_more(head, turns),
                 None => {
                     let inner = body_code(alloc, copy, moves, body, first, at)?;
-                    let turns = loop_code(alloc, line, at, first, l.index, inner)?;
-                    let code = with_more(head, turns)?;
-                    Ok(code)
+                    add_loop(alloc, &mut head, line, at, first, l.index, inner)?;
+                    Ok(head)
                 }
             }
         }
@@ -141,7 +139,7 @@ fn arm_codes(
     let mut after = pc;
     for arm in arms {
         let one = code_of_arm(alloc, copy, moves, arm, b, after, leave, again)?;
-        after = plus(place_after(after, &one)?, 1)?;
+        after = place_past(after, &one)?;
         codes.push(one)?;
     }
     Ok(ArmCodes { codes, after })
@@ -161,10 +159,10 @@ fn code_of_arm(
 ) -> Result<Vec<Instruction>, OutOfMemory>
     ensures { IfOk result (λ v. IsArm copy (moves_by moves.now) a.now b pc leave again (instructions v.items)) }
 {
-    let condition = condition_code(alloc, a.line, b, &a.condition)?;
     let slot = plus(b, slots_of(&a.condition)?)?;
-    let inside = plus(place_after(pc, &condition)?, 1)?;
+    let mut code = condition_code(alloc, a.line, b, &a.condition)?;
+    let inside = place_past(pc, &code)?;
     let body = block_code(alloc, copy, moves, &a.body, b, inside, leave, again)?;
-    let code = arm_code(pc, slot, condition, body)?;
+    add_arm(&mut code, pc, slot, body)?;
     Ok(code)
 }

@@ -1,6 +1,6 @@
-use Rattle.std.proofs.Common.{◌≡◌, ◌+◌, IfOk, sym, ap, ◌∙◌, subst}
+use Rattle.std.proofs.Common.{◌≡◌, ◌+◌, IfOk, ap, ◌∙◌, subst}
 use Rattle.std.proofs.lemmas.List.{at_drop_all}
-use Rattle.program_code.specs.ExpressionCode.{all_slots_of, flat_of, flats_of, operated_flat}
+use Rattle.program_code.specs.ExpressionCode.{flat_of, flats_of, operated_flat}
 use Rattle.node_code.specs.Flat.{Operated, Slot}
 use Rattle.node_code.specs.Texts.{flat}
 use Rattle.resolved_program.proofs.Forms.{apply_is, element_is}
@@ -19,12 +19,8 @@ flat_of-returns-in-Apply t c =
     subst (λ w. IfOk c.operated_flat.result (λ f. flat f ≡ flat_of c.args.b w)) (apply_is c.args.t.now _ c.in-Apply.operands c.deref-in-Apply.result.now c.in-Apply.is c.deref-in-Apply.ensures.value)
     c.operated_flat.ensures
 
-pub operated_flat-returns-in_ok-flats_of : goal.operated_flat-returns-in_ok-flats_of
-operated_flat-returns-in_ok-flats_of t c =
-    operated_vec c.args.op c.in_ok-flats_of.field-0
-    ∙ ap (Operated c.args.op) c.in_ok-flats_of.ensures
-    ∙ ap (λ d. operated_flat d c.args.op (flats_of c.args.b (terms_of c.args.operands.now)) (c.args.b + all_slots_of (terms_of c.args.operands.now)))
-    (sym c.if-can_divide.false ∙ c.can_divide.ensures)
+pub operated-returns : goal.operated-returns
+operated-returns t c = operated_vec c.args.op c.in_ok-flats_of.field-0 ∙ ap (Operated c.args.op) c.in_ok-flats_of.ensures
 
 pub flats_of-returns : goal.flats_of-returns
 flats_of-returns t c =

@@ -6,6 +6,6 @@ use Rattle.program_code.specs.ExpressionCode.{index_flat}
 use Rattle.node_codegen.proofs.forall_subscripts.+subscripts.Given as goal
 
 -- the subscripts so far, before those of the expressions that are left, are all
-abbrev pub invariant-subscripts_in_all-loop-t : goal.invariant-subscripts_in_all-loop-t
-invariant-subscripts_in_all-loop-t l =
-    map flat l.subscripts.items ++ map index_flat (subscripts_in_all (terms_of (drop l.t-index l.terms))) ≡ map index_flat (subscripts_in_all (terms_of l.terms))
+abbrev pub invariant-add_all_subscripts-loop-t : goal.invariant-add_all_subscripts-loop-t
+invariant-add_all_subscripts-loop-t l =
+    map flat l.found.items ++ map index_flat (subscripts_in_all (terms_of (drop l.t-index l.terms))) ≡ map flat l.fn.found.items ++ map index_flat (subscripts_in_all (terms_of l.terms))

@@ -21,11 +21,11 @@ body_code-loop-s-preserved t c =
     let w = c.args.w.now in
     let one = c.in_ok-one.one in
     let rest = plain (block_of (drop (n + 1) c.args.statements.now)) in
-    put_after c.loop-s.code.items c.joined.new.code.items one.items _ _ _ c.in_ok-joined.ensures c.loop-s.invariant
+    put_after c.loop-s.code.items c.put_at.new.code.items one.items _ _ _ c.in_ok-at.ensures.code c.loop-s.invariant
     (ap (λ l. body_by w (plain (block_of l)) c.args.guard c.loop-s.next c.args.b c.loop-s.at) (drop_item c.args.statements.now n s c.loop-s-test.true c.s-item.is)
     ∙ c.in_ok-one.ensures rest
-    ∙ (λ i. instructions one.items ++ body_by w rest c.args.guard (sym (c.in_ok-next.ensures ∙ ap (λ m. c.loop-s.next + m) c.in_ok-statement_conditions.ensures) i) c.args.b
-    (sym (c.in_ok-at.ensures ∙ ap (λ m. c.loop-s.at + m) (sym (length-map one.items instruction))) i)))
+    ∙ (λ i. instructions one.items ++ body_by w rest c.args.guard (sym (c.in_ok-following.ensures ∙ ap (λ m. c.loop-s.next + m) c.in_ok-statement_conditions.ensures) i) c.args.b
+    (sym (c.in_ok-at.ensures.place ∙ ap (λ m. c.loop-s.at + m) (sym (length-map one.items instruction))) i)))
 
 pub body_code-returns : goal.body_code-returns
 body_code-returns t c =
@@ -95,15 +95,15 @@ arms_code-loop-a-preserved t c = λ other.
     let tail = arms_of (drop (n + 1) c.args.arms.now) in
     let rest = plain_arms tail other in
     let earlier = c.loop-a.earlier.items in
-    let number : c.in_ok-next.next ≡ c.loop-a.next + 1 + count_nest (arm_body a) =
-    c.in_ok-next.ensures ∙ (λ i. c.in_ok-plus.ensures i + (c.in_ok-block_conditions.ensures ∙ ap (λ l. count_nest (plain (block_of l))) c.deref-in-loop-a-2.ensures.value) i) in
-    put_after c.loop-a.code.items c.joined.new.code.items one.items _ _ _ c.in_ok-joined.ensures (c.loop-a.invariant other)
+    let number : c.in_ok-following.following ≡ c.loop-a.next + 1 + count_nest (arm_body a) =
+    c.in_ok-following.ensures ∙ ap (λ l. c.loop-a.next + 1 + count_nest (plain (block_of l))) c.deref.ensures.value in
+    put_after c.loop-a.code.items c.put_at.new.code.items one.items _ _ _ c.in_ok-after.ensures.code (c.loop-a.invariant other)
     (ap (λ l. arms_by w (plain_arms (arms_of l) other) guard earlier c.loop-a.next b c.loop-a.after) (drop_item c.args.arms.now n a c.loop-a-test.true c.a-item.is)
     ∙ ap (λ l. arms_by w (plain_arms l other) guard earlier c.loop-a.next b c.loop-a.after) (arm_parts a tail)
-    ∙ ap (λ l. arms_by w (AndArm (arm_test a) (arm_body a) rest) guard l c.loop-a.next b c.loop-a.after) (sym c.deref.ensures.value)
+    ∙ ap (λ l. arms_by w (AndArm (arm_test a) (arm_body a) rest) guard l c.loop-a.next b c.loop-a.after) (sym c.deref-in-loop-a.ensures.value)
     ∙ c.in_ok-one.ensures rest
-    ∙ (λ i. instructions one.items ++ arms_by w rest guard ((ap (λ l. c.loop-a.next ∷ l) c.deref.ensures.value ∙ sym (c.in_ok-earlier.ensures ∙ ap (λ l. c.loop-a.next ∷ l) c.deref-in-loop-a.ensures.value)) i) (sym number i) b
-    (sym (c.in_ok-after.ensures ∙ ap (λ m. c.loop-a.after + m) (sym (length-map one.items instruction))) i)))
+    ∙ (λ i. instructions one.items ++ arms_by w rest guard ((ap (λ l. c.loop-a.next ∷ l) c.deref-in-loop-a.ensures.value ∙ sym (c.in_ok-earlier.ensures ∙ ap (λ l. c.loop-a.next ∷ l) c.deref-in-loop-a-2.ensures.value)) i) (sym number i) b
+    (sym (c.in_ok-after.ensures.place ∙ ap (λ m. c.loop-a.after + m) (sym (length-map one.items instruction))) i)))
 
 pub arms_code-returns : goal.arms_code-returns
 arms_code-returns t c = λ other.

@@ -18,7 +18,7 @@ returns c =
       scalars_are = c.in_ok-scalars.ensures;
       reduction_is = c.in_ok-extend_from_slice.ensures.items ∙ (λ i. c.new-reduction.ensures.items i ++ c.deref-2.ensures.value i);
       stored_is = first;
-      marks_are = c.in_ok-marks.ensures ∙ (λ i. first i + (c.in_ok-block_conditions.ensures ∙ ap (λ l. count_nest (plain (block_of l))) c.deref.ensures.value) i);
+      marks_are = c.in_ok-marks.ensures ∙ (λ i. first i + (c.in_ok-conditions.ensures ∙ ap (λ l. count_nest (plain (block_of l))) c.deref.ensures.value) i);
       indices_are = c.reverse.ensures.items ∙ ap reverse c.in_ok-indices.ensures;
       over_is = c.in_ok-over.ensures ∙ ap (λ l. along c.args.v (map with_index l)) (c.deref-3.ensures.value ∙ c.in_ok-indices.ensures) ∙ along_indices c.args.v nest.loops;
     }

@@ -31,14 +31,13 @@ code_of_arm-returns t c = λ tail other.
     let moves = moves_by c.args.moves.now in
     let b = c.args.b in
     let a = out-Arm c.args.a.now in
-    let condition = c.in_ok-condition.condition in
+    let condition = c.in_ok-code.code in
     let body = c.in_ok-body.body in
     ap (λ x. arms_code copy moves x other b c.args.pc c.args.leave c.args.again) (arm_parts c.args.a.now tail)
     ∙ arm_is a.line c.args.pc b (term a.condition) (λ pc. block_code copy moves (block_of a.body.items) b pc c.args.leave c.args.again) (λ pc. arms_code copy moves tail other b pc c.args.leave c.args.again)
-    condition.items body.items c.in_ok-code.code.items c.in_ok-condition.ensures
-    (c.in_ok-body.ensures
-    ∙ (λ i. block_code copy moves (block_of (c.deref.ensures.value i)) b ((c.in_ok-inside.ensures ∙ ap (λ n. n + 1) c.in_ok-place_after.ensures) i) c.args.leave c.args.again))
-    (c.in_ok-code.ensures
+    condition.items body.items c.add_arm.new.code.items c.in_ok-code.ensures
+    (c.in_ok-body.ensures ∙ (λ i. block_code copy moves (block_of (c.deref.ensures.value i)) b (c.in_ok-inside.ensures i) c.args.leave c.args.again))
+    (c.in_ok-add_arm.ensures
     ∙ ap (λ x. instructions condition.items ++ JumpIfZero (c.args.pc + length condition.items + 1 + length body.items + 1) x ∷ instructions body.items)
     (c.in_ok-slot.ensures ∙ ap (λ n. b + n) c.in_ok-slots_of.ensures))
 
@@ -55,19 +54,18 @@ statement_code-returns-in-Some t c =
     (ap (λ r. or_loops r loops) (sym c.in-Some.is) ∙ c.in_ok-turns-in-Do.ensures loops))
     c.with_more.ensures
 
-pub statement_code-returns-in_ok-code-in-None : goal.statement_code-returns-in_ok-code-in-None
-statement_code-returns-in_ok-code-in-None t c =
+pub statement_code-returns-in_ok-add_loop-in-None : goal.statement_code-returns-in_ok-add_loop-in-None
+statement_code-returns-in_ok-add_loop-in-None t c =
     let l = c.in-Do.l in
     let first = c.in_ok-first-in-Do.first in
     let at = c.in_ok-at-in-Do.at in
     let code = block_code c.args.copy (moves_by c.args.moves.now) (block_of c.in-Do.body.items) (first + 4) in
     let loops = loop_code c.args.line at first l.index code in
-    c.in_ok-code-in-None.ensures
+    c.in_ok-add_loop-in-None.ensures
     ∙ do_is c.args.copy (moves_by c.args.moves.now) c.args.line c.args.b c.args.pc c.args.leave c.args.again first at c.args.s.now c.in-Do.nest l c.in-Do.body
-    c.in_ok-head-in-Do.head.items (instructions c.in_ok-turns-in-None.turns.items) c.in-Do.is
+    c.in_ok-head-in-Do.head.items (loop_code c.args.line at first l.index (λ inside leave again. instructions c.in_ok-inner-in-None.inner.items)) c.in-Do.is
     (c.in_ok-first-in-Do.ensures ∙ ap (λ n. c.args.b + n) c.in_ok-control_slots-in-Do.ensures) c.in_ok-head-in-Do.ensures c.in_ok-at-in-Do.ensures
-    (c.in_ok-turns-in-None.ensures
-    ∙ ap (λ i. loop_code c.args.line at first l.index (λ inside leave again. i))
+    (ap (λ i. loop_code c.args.line at first l.index (λ inside leave again. i))
     (c.in_ok-inner-in-None.ensures
     ∙ ap (λ x. block_code c.args.copy (moves_by c.args.moves.now) (block_of x) (first + 4) (at + 8) (at + 3) (at + 4)) c.deref-in-None.ensures.value)
     ∙ ap (λ r. or_loops r loops) (sym c.in-None.is) ∙ c.in_ok-turns-in-Do.ensures loops)
@@ -84,7 +82,7 @@ arm_codes-loop-arm-preserved t c = λ other.
     (drop_item c.args.arms.now n c.arm-item.result c.loop-arm-test.true c.arm-item.is)
     ∙ arms_next after c.in_ok-after.after (codes c.loop-arm.codes.items) (instructions one.items)
     (λ pc. arms_code c.args.copy (moves_by c.args.moves.now) (arms_of (c.arm-item.result ∷ drop (n + 1) c.args.arms.now)) other c.args.b pc c.args.leave c.args.again) rest
-    (c.in_ok-after.ensures ∙ ap (λ k. k + 1) (c.in_ok-place_after.ensures ∙ ap (λ k. after + k) (sym (length-map one.items instruction))))
+    (c.in_ok-after.ensures ∙ ap (λ k. after + k + 1) (sym (length-map one.items instruction)))
     (c.in_ok-one.ensures tail other)
     ∙ ap (λ cs. arms_before c.in_ok-after.after cs rest) (sym (codes_next c.loop-arm.codes.items c.push.new.self.items one c.in_ok-push.ensures.items))
 

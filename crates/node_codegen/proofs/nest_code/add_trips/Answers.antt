@@ -4,7 +4,7 @@ use Rattle.node_code.specs.Instructions.{Trips}
 use Rattle.node_code.specs.Texts.{instruction}
 use Rattle.node_codegen.specs.NestNames.{with_index}
 use Rattle.node_codegen.proofs.NestBody.{push_after}
-use Rattle.node_codegen.proofs.nest_code.trips_code.Goals as goal
+use Rattle.node_codegen.proofs.nest_code.add_trips.Goals as goal
 
 -- one loop more
 trips_next : (line target at next n : ℕ) (xs : List ℕ) → n < length xs → next ≡ at + 4 →

@@ -4,7 +4,7 @@ use Rattle.node_code.specs.Texts.{instruction}
 use Rattle.node_codegen.specs.declared.nest_finals.Final.{Final}
 use Rattle.node_codegen.specs.NestFinals.{final}
 use Rattle.node_codegen.proofs.NestBody.{push_after}
-use Rattle.node_codegen.proofs.nest_finals.finals_instructions.Goals as goal
+use Rattle.node_codegen.proofs.nest_finals.add_finals.Goals as goal
 
 -- one scalar more
 finals_next : (line n : ℕ) (fs : List Final) (d : Final) → n < length fs →

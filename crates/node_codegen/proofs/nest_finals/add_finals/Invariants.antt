@@ -2,8 +2,8 @@ use Rattle.std.proofs.Common.{◌≡◌, ◌++◌, drop, map}
 use Rattle.program_code.specs.NestInstructions.{finals_instructions}
 use Rattle.node_code.specs.Texts.{instructions}
 use Rattle.node_codegen.specs.NestFinals.{final}
-use Rattle.node_codegen.proofs.nest_finals.finals_instructions.Given as goal
+use Rattle.node_codegen.proofs.nest_finals.add_finals.Given as goal
 
 -- those so far, before those of what is left
 abbrev pub invariant-loop-f : goal.invariant-loop-f
-invariant-loop-f l = instructions l.code.items ++ finals_instructions l.line (map final (drop l.f-index l.finals)) ≡ finals_instructions l.line (map final l.finals)
+invariant-loop-f l = instructions l.code.items ++ finals_instructions l.line (map final (drop l.f-index l.finals)) ≡ instructions l.fn.code.items ++ finals_instructions l.line (map final l.finals)

@@ -3,10 +3,10 @@ use Rattle.node_code.specs.Texts.{instructions}
 use Rattle.resolved_program.specs.Resolved.{control, element_assignment}
 use Rattle.program_code.specs.ExpressionCode.{subs_of}
 use Rattle.program_code.specs.StatementCode.{one_to_one_code, triplets}
-use Rattle.node_codegen.proofs.forall.one_to_one_code.Given as goal
+use Rattle.node_codegen.proofs.forall.add_tests.Given as goal
 
 -- the code so far, before that of the assignments that are left, is all
 abbrev pub invariant-loop-x : goal.invariant-loop-x
 invariant-loop-x l =
     instructions l.code.items ++ one_to_one_code (subs_of l.b (triplets (map control l.controls))) (map element_assignment (drop l.x-index l.body))
-    ≡ one_to_one_code (subs_of l.b (triplets (map control l.controls))) (map element_assignment l.body)
+    ≡ instructions l.fn.code.items ++ one_to_one_code (subs_of l.b (triplets (map control l.controls))) (map element_assignment l.body)
