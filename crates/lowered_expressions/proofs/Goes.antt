@@ -1,7 +1,7 @@
 -- What the code of a statement leads to, by the flow with which the statement ends.
 use Rattle.node_code.specs.Instructions.{NewMapping, Instruction, Set, Jump, JumpIfZero}
 use Rattle.code_meaning.specs.Instructions.{set_result, go_if, ArrayTable, meaning_of}
-use Rattle.std.proofs.Common.{◌≡◌, ℕ, ◌+◌, ◌<◌, ◌≤◌, List, [], length, ℤ, pos, Bool, Option, Some, Result, Ok, Err, refl, sym, ap, ◌∙◌, subst, arith, slice_get, slice_set, slice_index_or, length-set, get_or-set_same, get_or-set_other, ⊎_elim, ◌++◌, append-nil}
+use Rattle.std.proofs.Common.{◌≡◌, ℕ, ◌+◌, ◌<◌, ◌≤◌, List, [], length, ℤ, pos, Bool, Option, Some, None, Result, Ok, Err, refl, sym, ap, ◌∙◌, subst, arith, slice_get, slice_set, slice_index_or, length-set, get_or-set_same, get_or-set_other, ⊎_elim, ◌++◌, append-nil}
 use Rattle.std.proofs.lemmas.Bool.{cases_eq}
 use Rattle.array_meaning.specs.Faults.{Cause, Fault, ◌>>=◌}
 use Rattle.array_meaning.specs.Runs.{Completion, Normal, Exited, Cycled, Stopped, Run, normal, if_normal, then_do, one_step, with_value}
