@@ -1,6 +1,6 @@
 //! Mappings of arrays that are aligned with mapped ones (HPF 2.0, ALIGN).
 
-ghost use Rattle.std.specs.Prelude.{◌∷◌, [], ◌*ℤ◌, FitsSigned, length, All, IsTrue};
+ghost use Rattle.std.specs.Prelude.{◌∷◌, [], ◌*ℤ◌, FitsSigned, length, All, IfOk, IsTrue};
 ghost use Rattle.std.specs.Int.{w64};
 ghost use Rattle.mappings.specs.Alignment.{align_through, composed_align};
 ghost use Rattle.mappings.specs.Mapping.{FitsAlign, IsAlign, IsMapping};
