@@ -3,7 +3,6 @@ mod AtEntry
 mod Saturated
 mod Turns
 pub mod SetBack
-mod Rows
 mod OwnScalars
 mod AssignedParts
 mod Walked

@@ -12,11 +12,11 @@ use Rattle.array_meaning.specs.Clashes.{Clash, first_clash}
 use Rattle.nest_clash.specs.FirstClash.{InterfereIn}
 use Rattle.nest_clash.specs.Scan.{better, scan}
 use Rattle.nest_clash.specs.Visits.{Visit, Untouched, Read, Written, Met, touched_by, visit as visit_after}
-use Rattle.interference.specs.declared.visits.Visit.{Visit as HeldVisit}
-use Rattle.interference.specs.declared.visits.Visit.TheVariants as held
+use Rattle.visited_objects.specs.declared.visits.Visit.{Visit as HeldVisit}
+use Rattle.visited_objects.specs.declared.visits.Visit.TheVariants as held
 use Rattle.interference.specs.AllVisits.{visits_after}
 use Rattle.interference.specs.Scans.{in_places, in_rows}
-use Rattle.interference.specs.Visits.{in_row, touched, visit, visits_of}
+use Rattle.visited_objects.specs.Visits.{in_row, touched, visit, visits_of}
 
 -- ---- one object
 

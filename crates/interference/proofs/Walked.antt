@@ -23,7 +23,7 @@ use Rattle.array_meaning.specs.declared.sections.Sequence.{Sequence}
 use Rattle.array_meaning.specs.Sections.{nth}
 use Rattle.array_meaning.specs.Iterations.{in_turns, turn_value, values_of}
 use Rattle.array_meaning.specs.Touches.{Touch, counted, element_touch, known_truth, reads, touches, touches_in_arms}
-use Rattle.interference.specs.Visits.{touched}
+use Rattle.visited_objects.specs.Visits.{touched}
 use Rattle.interference.specs.Walks.{Walk, all_read, hidden, inside, noted, outside, read, turned, walked, walked_arms, walked_in, AreWalkedArms, IsWalkedArm}
 use Rattle.interference.proofs.SetBack.{set_again, set_back_one}
 

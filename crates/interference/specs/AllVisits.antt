@@ -8,7 +8,7 @@ use Rattle.array_meaning.specs.Touches.{Touch, assigned_in}
 use Rattle.nest_clash.specs.Visits.{Visit, Untouched}
 use Rattle.interference.specs.declared.indices.IterationSpace.{IterationSpace}
 use Rattle.interference.specs.IterationSpaces.{touches_at}
-use Rattle.interference.specs.Visits.{touched}
+use Rattle.visited_objects.specs.Visits.{touched}
 use Rattle.interference.specs.Walks.{Walk}
 
 -- after so many iterations, which touch these

@@ -2,7 +2,6 @@ pub mod Clashes
 pub mod Entry
 pub mod IterationSpaces
 pub mod Limits
-pub mod Visits
 pub mod Walks
 pub mod AllVisits
 pub mod Scans

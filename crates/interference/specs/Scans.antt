@@ -3,8 +3,8 @@
 use Rattle.std.specs.Prelude.{ℕ, suc, List, [], ◌∷◌, Option}
 use Rattle.array_meaning.specs.Clashes.{Clash}
 use Rattle.nest_clash.specs.Scan.{better}
-use Rattle.interference.specs.declared.visits.Visit.{Visit as HeldVisit}
-use Rattle.interference.specs.Visits.{visit}
+use Rattle.visited_objects.specs.declared.visits.Visit.{Visit as HeldVisit}
+use Rattle.visited_objects.specs.Visits.{visit}
 
 -- with the objects of a name from a place on
 abbrev pub in_places : ℕ → ℕ → List HeldVisit → Option Clash → Option Clash

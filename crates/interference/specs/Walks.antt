@@ -11,7 +11,7 @@ use Rattle.array_meaning.specs.Iterations.{in_turns, turn_value}
 use Rattle.array_meaning.specs.Touches.{Touch, reads, all_reads, touches, touches_in, touches_in_arms}
 use Rattle.nest_clash.specs.Visits.{Visit}
 use Rattle.interference.specs.declared.walk.Walk.{Walk as HeldWalk}
-use Rattle.interference.specs.Visits.{touched, visits_of}
+use Rattle.visited_objects.specs.Visits.{touched, visits_of}
 
 -- the iteration; the scalars that the nest assigns; the indices of the inner loops round a statement, and the other scalars of which each
 -- iteration has its own; and the visits so far

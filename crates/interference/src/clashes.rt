@@ -12,19 +12,19 @@ ghost use Rattle.interference.specs.AllVisits.{visits_after, walk_with};
 ghost use Rattle.interference.specs.Clashes.{clash};
 ghost use Rattle.interference.specs.IterationSpaces.{at_number, iterations_in, touches_at};
 ghost use Rattle.interference.specs.Scans.{in_places, in_rows};
-ghost use Rattle.interference.specs.Visits.{visit, visits_of};
+ghost use Rattle.visited_objects.specs.Visits.{visit, visits_of};
 ghost use Rattle.interference.specs.Walks.{walk_of, walked};
 
 use crate::assigned::add_assigned;
 use crate::indices::{IterationSpace, kept, set_back, set_iteration};
 use crate::limits::tuples;
 use crate::touches::note_block;
-use crate::visits::{Visit, Visits};
 use crate::walk::Walk;
 use nest_clash::scans_find;
 use resolved_program::{Nest, Statement};
 use std::alloc::{AllocError, Global};
 use term_values::State;
+use visited_objects::{Visit, Visits};
 
 /// Two iterations that interfere, by their numbers from 0, and the object that both access.
 #[derive(Clone, Copy)]

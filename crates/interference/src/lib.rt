@@ -16,7 +16,6 @@ mod indices;
 mod known;
 mod limits;
 mod touches;
-mod visits;
 mod walk;
 
 pub use entry::enter;

@@ -5,8 +5,8 @@ ghost use Rattle.array_meaning.specs.Iterations.{is_in};
 ghost use Rattle.array_meaning.specs.Touches.{scalar_touch};
 ghost use Rattle.interference.specs.Walks.{hidden, inside, noted, outside, walk_of};
 
-use crate::visits::Visits;
 use std::alloc::AllocError;
+use visited_objects::Visits;
 
 /// A walk of the iterations of a nest: the number of the iteration, from 0; the scalars that the nest assigns; the indices of the inner
 /// loops round a statement, the innermost last; the other scalars of which each iteration has its own; and how objects were visited so far.

@@ -1,10 +1,10 @@
--- Of private clauses.
+-- Of a promise.
 -- How all objects were visited, by name and place.
 use Rattle.std.specs.Prelude.{ℕ, nat_eq, List, [], slice_index_or, Bool, ◌&&◌, if◌then◌else◌}
 use Rattle.array_meaning.specs.Touches.{Touch}
 use Rattle.nest_clash.specs.Visits.{Visit, Untouched, Read, Written, Met, touched_by}
-use Rattle.interference.specs.declared.visits.Visit.{Visit as HeldVisit}
-use Rattle.interference.specs.declared.visits.Visit.TheVariants as held
+use Rattle.visited_objects.specs.declared.visits.Visit.{Visit as HeldVisit}
+use Rattle.visited_objects.specs.declared.visits.Visit.TheVariants as held
 
 abbrev pub visit : HeldVisit → Visit
 visit held.Untouched = Untouched

@@ -1,7 +1,7 @@
 use Rattle.std.proofs.Common.{◌∙◌, ◌<◌, ap, length, rules}
-use Rattle.interference.specs.Visits.{in_row}
-use Rattle.interference.proofs.Rows.{row_touched}
-use Rattle.interference.proofs.visits.Row.touch.Goals as goal
+use Rattle.visited_objects.specs.Visits.{in_row}
+use Rattle.visited_objects.proofs.Rows.{row_touched}
+use Rattle.visited_objects.proofs.visits.Row.touch.Goals as goal
 
 pub returns : goal.returns
 returns c =

@@ -7,9 +7,9 @@ use Rattle.std.proofs.lemmas.List.{get_or-set_other, take_all}
 use Rattle.std.proofs.lemmas.List.{get_or_default}
 use Rattle.nest_clash.specs.Visits.{Visit, touched_by}
 use Rattle.array_meaning.specs.Touches.{Touch}
-use Rattle.interference.specs.declared.visits.Visit.{Visit as HeldVisit}
-use Rattle.interference.specs.declared.visits.Visit.TheVariants.{Untouched}
-use Rattle.interference.specs.Visits.{visit, in_row, visits_of, touched_in_row, touched}
+use Rattle.visited_objects.specs.declared.visits.Visit.{Visit as HeldVisit}
+use Rattle.visited_objects.specs.declared.visits.Visit.TheVariants.{Untouched}
+use Rattle.visited_objects.specs.Visits.{visit, in_row, visits_of, touched_in_row, touched}
 
 -- what is read beyond a list is as what was added to it
 in_padding : {A : Type 0} (n k : ℕ) (d : A) → get_or (replicate n d) k d ≡ d

@@ -1,7 +1,7 @@
 use Rattle.std.proofs.Common.{◌≡◌, ◌∙◌, ◌≤◌, ap, sym, subst, length, rules}
-use Rattle.interference.specs.Visits.{in_row}
-use Rattle.interference.proofs.Rows.{row_resized, row_pushed}
-use Rattle.interference.proofs.visits.Row.reach.Goals as goal
+use Rattle.visited_objects.specs.Visits.{in_row}
+use Rattle.visited_objects.proofs.Rows.{row_resized, row_pushed}
+use Rattle.visited_objects.proofs.visits.Row.reach.Goals as goal
 
 pub returns-in_err-push-clause-same : goal.returns-in_err-push-clause-same
 returns-in_err-push-clause-same c =

@@ -2,7 +2,7 @@
 
 ghost use Rattle.std.specs.Prelude.{◌≡◌, ◌<◌, OnOk, length, []};
 ghost use Rattle.nest_clash.specs.Visits.{Untouched, touched_by};
-ghost use Rattle.interference.specs.Visits.{in_row, touched, touched_in_row, visit, visits_of};
+ghost use Rattle.visited_objects.specs.Visits.{in_row, touched, touched_in_row, visit, visits_of};
 
 use std::alloc::{AllocError, Global};
 use std::marker::Model;
@@ -10,7 +10,7 @@ use std::marker::Model;
 /// How an object was visited: not at all; read so far, by this iteration first; written by this iteration, which alone touched it; or two
 /// iterations interfere in it, of which these are the first two.
 #[derive(Clone, Copy)]
-pub(crate) enum Visit {
+pub enum Visit {
     Untouched,
     Read(u32),
     Written(u32),
@@ -18,7 +18,7 @@ pub(crate) enum Visit {
 }
 
 /// A visit after one more touch, by an iteration that isn't before those that touched the object.
-pub(crate) fn touched_by(before: Visit, iteration: u32, writes: bool) -> Visit
+pub fn touched_by(before: Visit, iteration: u32, writes: bool) -> Visit
     ensures { visit result ≡ touched_by iteration (visit before) writes }
 {
     match before {
@@ -56,13 +56,13 @@ fn first_touch(iteration: u32, writes: bool) -> Visit
 /// The visits of the elements of an array in array element order, or that of a scalar. Elements beyond the last one that was touched have
 /// none yet.
 #[derive(Drop)]
-pub(crate) struct Row {
+pub struct Row {
     visits: Vec<Visit>,
 }
 
 impl Model for Row {
     ghost use Rattle.std.specs.Prelude.{List};
-    ghost use Rattle.interference.specs.declared.visits.Visit.{Visit};
+    ghost use Rattle.visited_objects.specs.declared.visits.Visit.{Visit};
 
     ghost Value = { List Visit };
 
@@ -80,7 +80,7 @@ impl Row {
     }
 
     /// The visits, by place. It takes no memory.
-    pub(crate) fn visits(&self) -> &[Visit]
+    pub fn visits(&self) -> &[Visit]
         ensures { result.now ≡ self.now }
     {
         &self.visits
@@ -125,13 +125,13 @@ impl Row {
 
 /// How all objects were visited: a row for each name, as far as one was touched.
 #[derive(Drop)]
-pub(crate) struct Visits {
+pub struct Visits {
     rows: Vec<Row>,
 }
 
 impl Model for Visits {
     ghost use Rattle.std.specs.Prelude.{List};
-    ghost use Rattle.interference.specs.declared.visits.Visit.{Visit};
+    ghost use Rattle.visited_objects.specs.declared.visits.Visit.{Visit};
 
     ghost Value = { List (List Visit) };
 
@@ -140,7 +140,7 @@ impl Model for Visits {
 
 impl Visits {
     /// One in which all objects are untouched. It takes no memory.
-    pub(crate) fn new(alloc: Global) -> Visits
+    pub fn new(alloc: Global) -> Visits
         ensures { result ≡ [] }
     {
         Visits {
@@ -149,14 +149,14 @@ impl Visits {
     }
 
     /// The rows, by name. It takes no memory.
-    pub(crate) fn rows(&self) -> &[Row]
+    pub fn rows(&self) -> &[Row]
         ensures { result.now ≡ self.now }
     {
         &self.rows
     }
 
     /// Notes that an iteration, which isn't before those that touched the object, touches it.
-    pub(crate) fn touch(
+    pub fn touch(
         &mut self,
         iteration: u32,
         name: usize,

@@ -1,6 +1,6 @@
 use Rattle.std.proofs.Common.{◌∙◌, ◌++◌, ◌∷◌, [], ap}
-use Rattle.interference.proofs.Rows.{rows_pushed}
-use Rattle.interference.proofs.visits.Visits.reach.Goals as goal
+use Rattle.visited_objects.proofs.Rows.{rows_pushed}
+use Rattle.visited_objects.proofs.visits.Visits.reach.Goals as goal
 
 pub loop-alloc-preserved : goal.loop-alloc-preserved
 loop-alloc-preserved c =

@@ -1,7 +1,7 @@
 use Rattle.std.proofs.Common.{◌∙◌, ◌<◌, ap, length, rules}
-use Rattle.interference.specs.Visits.{visits_of}
-use Rattle.interference.proofs.Rows.{rows_touched}
-use Rattle.interference.proofs.visits.Visits.touch.Goals as goal
+use Rattle.visited_objects.specs.Visits.{visits_of}
+use Rattle.visited_objects.proofs.Rows.{rows_touched}
+use Rattle.visited_objects.proofs.visits.Visits.touch.Goals as goal
 
 pub returns : goal.returns
 returns c =

@@ -1,6 +1,6 @@
 use Rattle.std.proofs.Common.{◌≡◌, ◌-◌, ◌+◌, length}
-use Rattle.interference.specs.Visits.{visits_of}
-use Rattle.interference.proofs.visits.Visits.reach.Given as goal
+use Rattle.visited_objects.specs.Visits.{visits_of}
+use Rattle.visited_objects.proofs.visits.Visits.reach.Given as goal
 
 abbrev pub invariant-loop-alloc : goal.invariant-loop-alloc
 invariant-loop-alloc l = visits_of l.self-inside.rows.items ≡ visits_of l.fn.self
