@@ -1,6 +1,6 @@
 -- Of the claim.
 -- What each instruction of node code does on the machine with whole arrays.
-use Rattle.std.specs.Prelude.{ℕ, zero, suc, ◌+◌, List, [], ◌∷◌, ◌++◌, drop, slice_get, slice_set, ℤ, pos, Bool, true, false, Option, Some, None, Result, Ok, Err, if◌then◌else◌}
+use Rattle.std.specs.Prelude.{ℕ, zero, suc, ◌+◌, ◌<◌, List, [], ◌∷◌, ◌++◌, drop, slice_get, slice_set, ℤ, pos, Bool, true, false, Option, Some, None, Result, Ok, Err, ⊤, if◌then◌else◌}
 use Rattle.std.specs.Fmt.{signed_decimal}
 use Rattle.op_tables.specs.Operators.{wrapped, is_zero, is_true}
 use Rattle.node_code.specs.Dim.{Dim}
@@ -21,6 +21,7 @@ use Rattle.machine_steps.specs.Instr.{Instr, Local, Control, Remapping, Rounds}
 use Rattle.machine_steps.specs.Machine.{on, faulted, set_slot}
 use Rattle.machine_steps.specs.SameLayouts.{is_same_layout}
 use Rattle.machine_steps.specs.Space.{space_count}
+use Rattle.aligned_copies.specs.Beside.{Anchor}
 use Rattle.node_code.specs.Flat.{Flats}
 use Rattle.code_meaning.specs.Flat.{slot, flat_value, flat_values, slots_value}
 use Rattle.node_code.specs.Forms.{Sub}
@@ -100,12 +101,18 @@ remappings maps (first ∷ new) = remapping_by first.array (slice_get maps first
 -- ---- all instructions
 
 -- what instructions know of arrays: the dimensions of those that are declared, by the places of their names, the program's mappings by
--- their numbers, the layout of a copy of these extents by the layouts of all rows now, and the rounds in which arrays get new mappings
+-- their numbers, the layout of a copy of these extents by the layouts of all rows now and by what is assigned at a tuple, where it lies
+-- beside that, and the rounds in which arrays get new mappings
 pub record ArrayTable : Type 0 where
   pub shapes : List (List Dim)
   pub maps : List Mapping
-  pub copies : List Layout → (extents : List ℕ) → Layout
+  pub copies : List Layout → Option Anchor → (extents : List ℕ) → Layout
   pub rounds : List Remapping → Rounds
+
+-- what is assigned is an element of one of so many declared arrays, whose rows are the first
+abbrev pub IsAnchorBelow : ℕ → Option Anchor → Type 0
+IsAnchorBelow n None = ⊤
+IsAnchorBelow n (Some anchor) = anchor.row < n
 
 abbrev pub meaning_of : ArrayTable → Instruction → Instr Fault
 meaning_of table (Set line x f) = Local (λ c. set_result (at_line line (flat_value c.slots [] [] f)) x c)
@@ -127,8 +134,8 @@ meaning_of table (Par p) = machine.Par (assignment_tuples table.shapes p) (assig
 meaning_of table (ParForall p) = machine.Par (forall_tuples table.shapes p) (forall_spot table.shapes p)
 meaning_of table (ParNest p) = machine.Par (nest_tuples table.shapes p) (nest_spot table.shapes p)
 meaning_of table (MakeCopies copy over start) =
-    machine.MakeCopy copy (λ layouts slots. table.copies layouts (copies_extents over slots)) (λ slots. slots_value slots start)
-meaning_of table (MakeCopy copy p) = machine.MakeCopy copy (λ layouts slots. table.copies layouts (evaluation_extents p slots)) (λ slots. pos 0)
+    machine.MakeCopy copy (λ layouts slots. table.copies layouts None (copies_extents over slots)) (λ slots. slots_value slots start)
+meaning_of table (MakeCopy copy p) = machine.MakeCopy copy (λ layouts slots. table.copies layouts None (evaluation_extents p slots)) (λ slots. pos 0)
 meaning_of table (ParCopy copy p) = machine.Par (evaluation_tuples table.shapes p) (copy_spot copy)
 meaning_of table (ParForallCopy copy p) = machine.Par (forall_mask_tuples table.shapes p) (copy_spot copy)
 meaning_of table Verdict = machine.Verdict

@@ -9,3 +9,4 @@ pub mod ValidCode
 pub mod FaultNumbers
 pub mod FaultValues
 pub mod ProgramText
+pub use Rattle.aligned_copies.specs.Beside

@@ -5,9 +5,9 @@ use Rattle.std.specs.Prelude.{ℕ, List, map}
 use Rattle.mappings.specs.declared.mapping.Mapping.{Mapping}
 use Rattle.node_code.specs.Dim.{Dim}
 use Rattle.node_code.specs.Faults.{Fault}
-use Rattle.machine_steps.specs.CopyLayout.{copy_layout}
 use Rattle.machine_steps.specs.Instr.{Instr}
 use Rattle.machine_steps.specs.Rounds.{rounds_on}
+use Rattle.aligned_copies.specs.Beside.{aligned_layout}
 use Rattle.code_meaning.specs.Instructions.{ArrayTable, meaning_of}
 use Rattle.node_code.specs.Instructions.{Instruction}
 
@@ -19,10 +19,10 @@ pub record Text : Type 0 where
   pub nodes : ℕ
   pub instruction : Instruction
 
--- arrays of these shapes and these mappings on so many nodes: copies lie in blocks over all of them, and new mappings come in the rounds
--- of their colours
+-- arrays of these shapes and these mappings on so many nodes: copies lie beside what is assigned, where that is good, and else in blocks over
+-- all of them, and new mappings come in the rounds of their colours
 abbrev pub table_on : ℕ → List Mapping → List (List Dim) → ArrayTable
-table_on nodes maps shapes = record { shapes = shapes; maps = maps; copies = λ layouts. copy_layout nodes; rounds = rounds_on nodes }
+table_on nodes maps shapes = record { shapes = shapes; maps = maps; copies = aligned_layout nodes; rounds = rounds_on nodes }
 
 abbrev pub text_meaning : Text → Instr Fault
 text_meaning t = meaning_of (table_on t.nodes t.maps t.shapes) t.instruction

@@ -1,7 +1,8 @@
 //! What node code does on the machine with whole arrays.
 //!
-//! Comes in: the instructions (`node_code`), the values, sections, spaces and faults of `array_meaning`, and the steps of `machine_steps`. Goes
-//! out, as definitions in `specs/`: what each instruction means, as a function of the slots, and which code is valid. There is no function here.
+//! Comes in: the instructions (`node_code`), the values, sections, spaces and faults of `array_meaning`, the steps of `machine_steps`, and how
+//! copies lie (`aligned_copies`). Goes out, as definitions in `specs/`: what each instruction means, as a function of the slots, and which code is
+//! valid. There is no function here.
 //!
 //! What holds in between, from the bottom up; a definition stands in the file of the name that `node_code` has for the data:
 //!

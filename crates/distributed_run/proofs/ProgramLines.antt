@@ -31,6 +31,7 @@ use Rattle.machine_steps.specs.Agrees.{IsOver, IsValidCode}
 use Rattle.machine_steps.specs.Instr.{Status, Running, Finished, Faulted}
 use Rattle.machine_steps.specs.Layout.{Layout}
 use Rattle.machine_steps.specs.Machine.{Machine, steps}
+use Rattle.code_meaning.proofs.Beside.{are-dealt}
 use Rattle.code_meaning.specs.Instructions.{ArrayTable, meaning_of, remappings}
 use Rattle.node_code.specs.Instructions.{Instruction, NewMapping}
 use Rattle.code_meaning.specs.ProgramText.{Text, table_on, text, text_meaning}
@@ -41,7 +42,6 @@ use Rattle.compiled_program.proofs.ValidPrograms.{trail_lowered, valid}
 use Rattle.nest_items.specs.BlockForms.{BlockHasForms}
 use Rattle.fitting_states.specs.FittingStates.{ProgramFits}
 use Rattle.compiled_program.proofs.StandingPrograms.{program_forms}
-use Rattle.owner_tables.proofs.CopyLaws.{copy-dealt, copy-size}
 use Rattle.owner_tables.proofs.SameLayouts.{same_layouts}
 use Rattle.covering_rounds.proofs.Covering.{rounds-cover}
 use Rattle.node_run.proofs.CodedSteps.{steps-coded}
@@ -52,6 +52,7 @@ use Rattle.compiled_program.specs.ProgramLayouts.{layout_by, maps_after, program
 use Rattle.compiled_program.specs.ProgramRuns.{end_by_status, program_shapes}
 use Rattle.compiled_program.proofs.Laid.{names-many}
 use Rattle.compiled_program.proofs.StartLaid.{program-laid}
+use Rattle.compiled_program.proofs.Tables.{tables-are}
 use Rattle.message_text.specs.MessageText.{trail_lines}
 use Rattle.message_text.specs.Parts.{Setting}
 use Rattle.distributed_run.specs.ProgramMessages.{messages_text, names_layouts, program_setting}
@@ -150,7 +151,7 @@ module _ (grid : List ℕ) (p : MainProgram) where
       (end-over end.control.status (end_of r.completion) (ended n end r.state r.completion h))
 
   tabled : IsTable (initial_state (entries p)) table
-  tabled = record { shapes = refl; copies = λ ls extents. copy-size nodes extents; steady = λ one other extents. refl }
+  tabled = tables-are nodes maps (initial_state (entries p))
 
   many : length layouts ≡ n + program_copies p
   many = layouts-many nodes (program_copies p) (entries p) (start_maps grid p)
@@ -189,7 +190,7 @@ module _ (grid : List ℕ) (p : MainProgram) where
     valid-code : IsValidCode (meaning_of table) nodes (names_shapes p layouts) m.code
     valid-code =
         let some : 1 ≤ nodes = product-some grid is.extents in
-        valid nodes p (names_shapes p layouts) table moves (omega (arith, few)) (λ ls owned extents. copy-dealt nodes extents some) same_layouts
+        valid nodes p (names_shapes p layouts) table moves (omega (arith, few)) (λ ls owned anchor extents. are-dealt nodes ls anchor extents some owned) same_layouts
         (λ line. (dealt grid (program_copies p) p is arrays new line, λ ls declared owned. rounds-cover nodes (remappings maps (moves line)) ls owned))
         rules.resolved rules.bodies_fine
 

@@ -67,7 +67,7 @@ use Rattle.lowered_nests.proofs.CodedBody.{are-scalars, of-scalars, array-row, b
 use Rattle.lowered_nests.proofs.Standing.{same-along, these-indices, these-many}
 use Rattle.lowered_nests.proofs.Counted.{count-of}
 
-module _ (table : ArrayTable) (row_count : ℕ) (moves : ℕ → List NewMapping) (code : List Instruction) (n many : ℕ) (lie : HasCopies table)
+module _ (table : ArrayTable) (row_count : ℕ) (moves : ℕ → List NewMapping) (code : List Instruction) (n many : ℕ) (lie : HasCopies table n)
     (line pc v : ℕ) (nest : Nest) (loop : Loop) (block body : Block) (s : State) (slots : List ℤ) (rows : Storage)
     (h : NestStands table row_count moves code n many line pc v nest loop block body s slots rows) (some : iteration_count nest s ≡ 0 → ⊥) where
   abbrev all : ℕ → Bool
@@ -229,7 +229,7 @@ module _ (table : ArrayTable) (row_count : ℕ) (moves : ℕ → List NewMapping
   pub texts-fit : Fit (count_body (machine_body w c s body ok))
   texts-fit = subst Fit (sym count-is) (record {
     sized = λ s' same. these-many over (nest_axes s nest) s' (gives s' same) limit;
-    laid = λ layouts s' same. lie.sized layouts (copies_extents over s') ∙ these-many over (nest_axes s nest) s' (gives s' same) limit;
+    laid = λ layouts s' same. lie.sized layouts None (copies_extents over s') ∙ these-many over (nest_axes s nest) s' (gives s' same) limit;
     conditions = λ k lt. (condition-place n ks conds are k, condition-row n ks conds are k lt, condition-long k lt);
     marks = off-marks;
   })

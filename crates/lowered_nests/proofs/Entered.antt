@@ -1,5 +1,5 @@
 -- A nest that stands is begun: it is entered, and its storage lies among the machine's rows.
-use Rattle.std.proofs.Common.{◌≡◌, ℕ, ◌+◌, ◌-◌, ◌<◌, ◌≤◌, ◌⊎◌, inl, inr, nat_lt, List, [], ◌∷◌, length, replicate, ℤ, Bool, true, false, Some, if◌then◌else◌, refl, sym, ap, ap₂, ◌∙◌, subst, arith}
+use Rattle.std.proofs.Common.{◌≡◌, ℕ, ◌+◌, ◌-◌, ◌<◌, ◌≤◌, ◌⊎◌, inl, inr, nat_lt, List, [], ◌∷◌, length, replicate, ℤ, Bool, true, false, Some, None, if◌then◌else◌, refl, sym, ap, ap₂, ◌∙◌, subst, arith}
 use Rattle.std.specs.List.{Contains}
 use Rattle.std.proofs.lemmas.Bool.Decides.{nat_tests}
 use Rattle.op_tables.specs.Joins.{unit}
@@ -33,7 +33,7 @@ use Rattle.lowered_nests.proofs.CodedBody.{array-row}
 use Rattle.lowered_nests.proofs.Standing.{below-of, entries-below, condition-made, final-made}
 use Rattle.lowered_nests.proofs.Begun as begun
 
-module _ (table : ArrayTable) (row_count : ℕ) (moves : ℕ → List NewMapping) (code : List Instruction) (n many : ℕ) (lie : HasCopies table)
+module _ (table : ArrayTable) (row_count : ℕ) (moves : ℕ → List NewMapping) (code : List Instruction) (n many : ℕ) (lie : HasCopies table n)
     (line pc v : ℕ) (nest : Nest) (loop : Loop) (block body : Block) (s : State) (slots : List ℤ) (rows : Storage)
     (h : NestStands table row_count moves code n many line pc v nest loop block body s slots rows) (some : iteration_count nest s ≡ 0 → ⊥) where
   abbrev kinds : ℕ → Kind
@@ -155,7 +155,7 @@ module _ (table : ArrayTable) (row_count : ℕ) (moves : ℕ → List NewMapping
     as_many = i.laid ∙ sym h.holds.more_rows;
     few = λ e has. let z = below-of (n + (length ks + conds + length ks)) es e (entries-below n ks conds kinds) has in
         let y = h.room in let x = h.holds.more_rows in omega (arith, z, y, x);
-    steady = λ layouts same. lie.steady layouts i.layouts (copies_extents over slots);
+    steady = λ layouts same. lie.steady layouts i.layouts None (copies_extents over slots) (λ r lt. same r (names-unmade n ks conds kinds r lt)) tt;
     inside = λ r of_row. (let z = begun.start-long table row_count moves code n many lie line pc v nest loop block body s slots rows h some in
         let small : r < n + conds = grind (arith, nat_tests, of_row) in omega (arith, z, small));
     rows = every-row;

@@ -42,7 +42,7 @@ use Rattle.lowered_nests.proofs.LoopTrips.{Steps, trips-go, trips-skip, bounds-g
 use Rattle.lowered_nests.proofs.IndexCode.{indices-go}
 use Rattle.lowered_nests.proofs.NestPieces.{at_trips, at_statements, at_indices, end, HasPieces, has-pieces, end-is}
 
-module _ (table : ArrayTable) (row_count : ℕ) (moves : ℕ → List NewMapping) (code : List Instruction) (n many : ℕ) (copies : HasCopies table)
+module _ (table : ArrayTable) (row_count : ℕ) (moves : ℕ → List NewMapping) (code : List Instruction) (n many : ℕ) (copies : HasCopies table n)
     (declared : length table.shapes ≡ n) (line pc v : ℕ) (nest : Nest) (loop : Loop) (block body : Block) (s : State) (slots : List ℤ) (rows : Storage) (form : HasForm nest loop block body)
     (named : IsWellFormedBlock n block) (index : loop.index < n) (with_statements : body ≡ Done → ⊥) (control : ControlFits loop.control) (from : n ≤ v) (few : v + nest_slots nest body ≤ many) (room : n + nest_rows n nest body ≤ row_count) (fits : StateFits s)
     (holds : Holds table row_count moves code n many None s slots rows) (has : HasAt code pc (nest_code n line nest body v pc)) (known : index_values s loop.control ≡ Ok (values_of s loop))
@@ -280,7 +280,7 @@ module _ (table : ArrayTable) (row_count : ℕ) (moves : ℕ → List NewMapping
       by_case (inr empty) = goes-empty empty
 
 -- the code of a nest, after the bounds of its outermost loop are in slots and its entry is checked, makes what is left of the run
-pub nest-goes : (table : ArrayTable) (row_count : ℕ) (moves : ℕ → List NewMapping) (code : List Instruction) (n many : ℕ) → HasCopies table → length table.shapes ≡ n
+pub nest-goes : (table : ArrayTable) (row_count : ℕ) (moves : ℕ → List NewMapping) (code : List Instruction) (n many : ℕ) → HasCopies table n → length table.shapes ≡ n
     → (line pc v : ℕ) (nest : Nest) (loop : Loop) (block body : Block) (s : State) (slots : List ℤ) (rows : Storage) (form : HasForm nest loop block body) → IsWellFormedBlock n block → loop.index < n
     → (body ≡ Done → ⊥) → ControlFits loop.control
     → n ≤ v → v + nest_slots nest body ≤ many → n + nest_rows n nest body ≤ row_count → StateFits s → Holds table row_count moves code n many None s slots rows

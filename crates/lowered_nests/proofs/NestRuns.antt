@@ -1,5 +1,5 @@
 -- What is asked of a nest and of the machine where its loops have their bounds, and what is so after its statements.
-use Rattle.std.proofs.Common.{◌≡◌, ℕ, ◌+◌, ◌*◌, ◌<◌, ◌≤◌, ◌⊎◌, List, length, map, ℤ, true, false, None, Ok}
+use Rattle.std.proofs.Common.{◌≡◌, ℕ, ◌+◌, ◌*◌, ◌<◌, ◌≤◌, ◌⊎◌, List, length, map, slice_get, ℤ, true, false, Option, None, Ok}
 use Rattle.storage.specs.Storage.{Storage}
 use Rattle.machine_steps.specs.Layout.{Layout, size_of}
 use Rattle.machine_steps.specs.Space.{space_count}
@@ -16,7 +16,8 @@ use Rattle.statement_trail.specs.Trail.{nest_trail}
 use Rattle.code_meaning.specs.Flat.{slot}
 use Rattle.code_meaning.specs.Forms.{selections_in}
 use Rattle.node_code.specs.Instructions.{Instruction, NewMapping}
-use Rattle.code_meaning.specs.Instructions.{ArrayTable}
+use Rattle.code_meaning.specs.Beside.{Anchor}
+use Rattle.code_meaning.specs.Instructions.{ArrayTable, IsAnchorBelow}
 use Rattle.lowered_expressions.specs.WellFormed.{IsWellFormedBlock}
 use Rattle.lowered_expressions.proofs.Reach.{HasAt, Reaches, Stops, stands}
 use Rattle.lowered_expressions.proofs.Terms.{HoldsArrays}
@@ -28,10 +29,12 @@ use Rattle.statement_trail.specs.NestParts.{index_in}
 use Rattle.fitting_states.specs.FittingStates.{StateFits, ControlFits}
 use Rattle.program_code.specs.NestCode.{plain, text_in, test_in, stored, finals, along, nest_rows}
 
--- how copies lie: with an element for each position, whatever lies how
-pub record HasCopies (table : ArrayTable) : Type 0 where
-  pub sized : (layouts : List Layout) (ns : List ℕ) → size_of (table.copies layouts ns) ≡ space_count ns
-  pub steady : (one other : List Layout) (ns : List ℕ) → table.copies one ns ≡ table.copies other ns
+-- how copies lie: with an element for each position, however the rows lie. Where what is assigned is an element of one of n declared arrays, whose
+-- rows are the first, or isn't said, they lie by how these rows lie alone
+pub record HasCopies (table : ArrayTable) (n : ℕ) : Type 0 where
+  pub sized : (layouts : List Layout) (anchor : Option Anchor) (ns : List ℕ) → size_of (table.copies layouts anchor ns) ≡ space_count ns
+  pub steady : (one other : List Layout) (anchor : Option Anchor) (ns : List ℕ) → ((r : ℕ) → r < n → slice_get one r ≡ slice_get other r) → IsAnchorBelow n anchor
+      → table.copies one anchor ns ≡ table.copies other anchor ns
 
 -- the place after the statements of the nest of a line at a place
 abbrev pub place_after : (n line pc v : ℕ) → Nest → Block → ℕ
@@ -94,7 +97,7 @@ module _ (table : ArrayTable) (row_count : ℕ) (moves : ℕ → List NewMapping
 
 -- the statements of a nest that has an iteration end as the meaning says
 abbrev pub StatementsRun : Type 0
-StatementsRun = (table : ArrayTable) (row_count : ℕ) (moves : ℕ → List NewMapping) (code : List Instruction) (n many : ℕ) → HasCopies table → length table.shapes ≡ n
+StatementsRun = (table : ArrayTable) (row_count : ℕ) (moves : ℕ → List NewMapping) (code : List Instruction) (n many : ℕ) → HasCopies table n → length table.shapes ≡ n
     → (line pc v : ℕ) (nest : Nest) (loop : Loop) (block body : Block) (s : State) (slots : List ℤ) (rows : Storage)
     → (h : NestStands table row_count moves code n many line pc v nest loop block body s slots rows) → (iteration_count nest s ≡ 0 → ⊥)
     → StatementsEnd table row_count moves code n many line pc v nest loop block body h.form s slots rows

@@ -3,7 +3,6 @@ use Rattle.std.proofs.Common.{◌≡◌, ℕ, ◌+◌, ◌*◌, ◌<◌, ◌≤�
 use Rattle.std.proofs.lemmas.Bool.{cases_lt}
 use Rattle.std.proofs.lemmas.List.{length-replicate}
 use Rattle.storage.specs.Storage.{Storage}
-use Rattle.machine_steps.specs.Layout.{size_of}
 use Rattle.machine_steps.specs.Instr as machine
 use Rattle.machine_steps.specs.Machine.{Machine, steps}
 use Rattle.machine_steps.specs.SameLayouts.{is_same_layout}
@@ -82,7 +81,7 @@ module _ (table : ArrayTable) (row_count : ℕ) (moves : ℕ → List NewMapping
     pub long : length (code_of (names_in table n nest body (along v nest.loops) is_index) (code_in n line pc v nest body) s body ok)
         ≡ length (nest_instructions line (along v nest.loops) (text_in n nest body) (test_in n nest body) (stored n nest body) (finals n nest body) (plain body) (v + 4 * length nest.loops) pc)
 
-  module _ (copies : HasCopies table) (line pc v : ℕ) (nest : Nest) (loop : Loop) (block body : Block) (s : State) (slots : List ℤ) (rows : Storage)
+  module _ (copies : HasCopies table n) (line pc v : ℕ) (nest : Nest) (loop : Loop) (block body : Block) (s : State) (slots : List ℤ) (rows : Storage)
       (h : NestStands table row_count moves code n many line pc v nest loop block body s slots rows) (b : NestBegins line pc v nest loop block body s slots rows h)
       (some : iteration_count nest s ≡ 0 → ⊥) where
     abbrev w : NestNames
@@ -108,7 +107,7 @@ module _ (table : ArrayTable) (row_count : ℕ) (moves : ℕ → List NewMapping
 
     -- one way in which the rows may lie
     first : Idle row_count
-    first = record { layouts = replicate row_count (table.copies [] []); joined = pos 0; laid = length-replicate row_count (table.copies [] []) }
+    first = record { layouts = replicate row_count (table.copies [] None []); joined = pos 0; laid = length-replicate row_count (table.copies [] None []) }
 
     ended-so : (one other : State) → r ≡ normal one → r ≡ normal other → one ≡ other
     ended-so one other e f = ap (λ (x : Run). x.state) (sym e ∙ f)
@@ -151,7 +150,7 @@ module _ (table : ArrayTable) (row_count : ℕ) (moves : ℕ → List NewMapping
 
       rows-same : (i : Idle row_count) → (ends i).after.data'.rows ≡ rows'
       rows-same i = (ends i).after.rows_are
-          ∙ same-rows (nest_layout w.table w.over) (λ one other z. ap size_of (copies.steady one other _)) (texts_of w) (counting_at c.line) (iterations_at w.over) c.stored c.finals
+          ∙ same-rows (nest_layout w.table w.over) (λ one other z. copies.sized one None _ ∙ sym (copies.sized other None _)) (texts_of w) (counting_at c.line) (iterations_at w.over) c.stored c.finals
           (machine_body w c s body b.ok) c.slot slots (data_in rows i) (data_in rows first) refl
           ∙ sym e.after.rows_are
 

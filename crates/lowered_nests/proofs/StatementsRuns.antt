@@ -40,7 +40,7 @@ use Rattle.lowered_nests.proofs.Begun as begun
 use Rattle.lowered_nests.proofs.Starts.{begins}
 use Rattle.lowered_nests.proofs.StatementsEnds.{NestBegins, data_in, statements-end}
 
-module _ (table : ArrayTable) (row_count : ℕ) (moves : ℕ → List NewMapping) (code : List Instruction) (n many : ℕ) (lie : HasCopies table)
+module _ (table : ArrayTable) (row_count : ℕ) (moves : ℕ → List NewMapping) (code : List Instruction) (n many : ℕ) (lie : HasCopies table n)
     (line pc v : ℕ) (nest : Nest) (loop : Loop) (block body : Block) (s : State) (slots : List _) (rows : Storage)
     (h : NestStands table row_count moves code n many line pc v nest loop block body s slots rows) (some : iteration_count nest s ≡ 0 → ⊥) where
   abbrev over : List Sub

@@ -1,7 +1,8 @@
 -- The values of a mask into its copy.
 use Rattle.node_code.specs.Instructions.{NewMapping, Instruction, MakeCopy, Verdict}
+use Rattle.code_meaning.specs.Beside.{Anchor}
 use Rattle.code_meaning.specs.Instructions.{ArrayTable, meaning_of}
-use Rattle.std.proofs.Common.{◌≡◌, ℕ, ◌+◌, List, [], ◌∷◌, ◌++◌, length, ℤ, pos, Some, None, Result, Ok, Err, refl, sym, ap, ◌∙◌, subst, arith, append-nil, replicate, slice_set, length-set, get_or-set_same}
+use Rattle.std.proofs.Common.{◌≡◌, ℕ, ◌+◌, List, [], ◌∷◌, ◌++◌, length, ℤ, pos, Option, Some, None, Result, Ok, Err, refl, sym, ap, ◌∙◌, subst, arith, append-nil, replicate, slice_set, length-set, get_or-set_same}
 use Rattle.std.proofs.lemmas.List.{length-replicate}
 use Rattle.hpf_base.specs.ElementOrder.{product}
 use Rattle.storage.specs.Storage.{Storage, read, row_of}
@@ -29,7 +30,7 @@ use Rattle.lowering.proofs.Masks.{holds-copy, holds-some, value_effect, Filled, 
 use Rattle.lowering.proofs.Evaluating.{result-outcome}
 use Rattle.lowering.proofs.Pars.{par-reaches, par-stops}
 
-module _ (table : ArrayTable) (row_count : ℕ) (moves : ℕ → List NewMapping) (code : List Instruction) (n many leave again : ℕ) (sized : (layouts : List Layout) (ns : List ℕ) → size_of (table.copies layouts ns) ≡ space_count ns) (line b pc to : ℕ)
+module _ (table : ArrayTable) (row_count : ℕ) (moves : ℕ → List NewMapping) (code : List Instruction) (n many leave again : ℕ) (sized : (layouts : List Layout) (anchor : Option Anchor) (ns : List ℕ) → size_of (table.copies layouts anchor ns) ≡ space_count ns) (line b pc to : ℕ)
     (form : ArrayForm) (over : List Sub) (par : Instruction) (tuples : Tuples Fault) (is : meaning_of table par ≡ instr.Par tuples (copy_spot n)) where
   abbrev p : Evaluation
   p = record { line = line; form = form; over = over }
@@ -82,12 +83,12 @@ module _ (table : ArrayTable) (row_count : ℕ) (moves : ℕ → List NewMapping
 
     makes : Reaches table row_count moves code [] m0 m1
     makes i =
-        let layout : Layout = table.copies i.layouts (evaluation_extents p slots) in
+        let layout : Layout = table.copies i.layouts None (evaluation_extents p slots) in
         let j : Idle row_count = record { layouts = slice_set i.layouts n layout; joined = i.joined; laid = length-set i.layouts n layout ∙ i.laid } in (
           1,
           j,
           one table row_count moves code pc slots rows s.printed (MakeCopy n p) has.0 i
-              ∙ ap (λ k. stands table row_count moves code (pc + 1) slots (slice_set rows n (replicate k (pos 0))) s.printed j) (sized i.layouts (evaluation_extents p slots)),
+              ∙ ap (λ k. stands table row_count moves code (pc + 1) slots (slice_set rows n (replicate k (pos 0))) s.printed j) (sized i.layouts None (evaluation_extents p slots)),
           still table row_count moves code pc slots rows s.printed (MakeCopy n p) has.0 refl i,
         )
 

@@ -1,5 +1,6 @@
 -- The code of a FORALL does what it means.
 use Rattle.node_code.specs.Instructions.{NewMapping, Instruction, ForallLimits, OneToOne, ParForall, ParForallCopy}
+use Rattle.code_meaning.specs.Beside.{Anchor}
 use Rattle.code_meaning.specs.Instructions.{ArrayTable, meaning_of, go_on_if}
 use Rattle.std.proofs.Common.{◌≡◌, ℕ, ◌+◌, ◌<◌, ◌≤◌, ◌==◌, ◌||◌, ◌&&◌, nat_le, List, [], ◌∷◌, ◌++◌, map, length, ℤ, pos, Bool, true, false, if◌then◌else◌, Option, Some, None, option_map, Result, Ok, Err, refl, sym, ap, ◌∙◌, subst, arith, length-append, append-nil, slice_get, slice_index_or}
 use Rattle.std.proofs.lemmas.Bool.Decides.{Decides-eqb}
@@ -341,7 +342,7 @@ module _ (table : ArrayTable) (row_count : ℕ) (moves : ℕ → List NewMapping
 
     -- ---- the mask
 
-    module _ (sized : (layouts : List Layout) (ms : List ℕ) → size_of (table.copies layouts ms) ≡ space_count ms) (body : List ElementAssignment) (ok_body : AreIndexedAssignments n body)
+    module _ (sized : (layouts : List Layout) (anchor : Option Anchor) (ms : List ℕ) → size_of (table.copies layouts anchor ms) ≡ space_count ms) (body : List ElementAssignment) (ok_body : AreIndexedAssignments n body)
         (all : space_count ns ≡ product ns) where
       after-goes : (mask : Option Term) (pc : ℕ) (slots : List ℤ) (rows : Storage) (s : State) → IsIndexedMask n mask
           → HasAt code pc (forall_mask_code n line over mask ++ forall_assignments_code over (option_map (λ t. where_true n true) mask) body)
@@ -419,7 +420,7 @@ module _ (table : ArrayTable) (row_count : ℕ) (moves : ℕ → List NewMapping
 
   -- ---- the statement
 
-  pub forall-goes : (sized : (layouts : List Layout) (ms : List ℕ) → size_of (table.copies layouts ms) ≡ space_count ms) (line b pc : ℕ) (controls : List Control) (mask : Option Term)
+  pub forall-goes : (sized : (layouts : List Layout) (anchor : Option Anchor) (ms : List ℕ) → size_of (table.copies layouts anchor ms) ≡ space_count ms) (line b pc : ℕ) (controls : List Control) (mask : Option Term)
       (body : List ElementAssignment) (slots : List ℤ) (rows : Storage) (s : State) → AreControls n controls → IsIndexedMask n mask → AreIndexedAssignments n body
       → HasAt code pc (forall_code n line b controls mask body) → n ≤ b → b + subscripts_slots (triplets controls) ≤ many → Holds table row_count moves code n many None s slots rows
       → Goes table row_count moves code n many None leave again (trail (Forall controls mask body) line s) (pc + length (forall_code n line b controls mask body)) b slots (stands table row_count moves code pc slots rows s.printed)

@@ -15,7 +15,7 @@ use Rattle.machine_steps.specs.Layout.{Layout}
 use Rattle.machine_steps.specs.Instr.{Finished}
 use Rattle.machine_steps.specs.Machine.{Machine, steps}
 use Rattle.node_code.specs.Instructions.{Instruction, NewMapping, Jump, Halt}
-use Rattle.code_meaning.specs.Instructions.{meaning_of, ArrayTable}
+use Rattle.code_meaning.specs.Instructions.{meaning_of, ArrayTable, IsAnchorBelow}
 use Rattle.program_code.specs.StatementCode.{block_copies, block_slots, block_code, program_code}
 use Rattle.lowered_expressions.specs.WellFormed.{IsWellFormedBlock}
 use Rattle.nest_items.specs.BlockForms.{BlockHasForms}
@@ -25,6 +25,7 @@ use Rattle.statement_trail.specs.Trail.{Trail, block_trail}
 use Rattle.lowered_expressions.specs.Passed.{passed, IsTrail}
 use Rattle.lowered_expressions.proofs.Reach.{still, entries-more, reaches-last, Idle, Place, HasAt, has-front, has-back, Reaches, reaches-on, stands, one, steps-more}
 use Rattle.lowered_expressions.proofs.Goes.{Holds, Flows, jump-reaches}
+use Rattle.lowered_nests.proofs.NestRuns.{HasCopies}
 use Rattle.lowering.proofs.Rooms.{some_copy}
 use Rattle.lowering.proofs.Statements.{block-goes}
 
@@ -88,12 +89,18 @@ module _ (table : ArrayTable) (n room : ℕ) (moves : ℕ → List NewMapping) (
   declared : length table.shapes ≡ n
   declared = ap length tabled.shapes ∙ length-map s.arrays (λ (a : Array). a.dims) ∙ is.arrays
 
+  lie : HasCopies table n
+  lie = record {
+    sized = tabled.copies;
+    steady = λ one other anchor extents same below. tabled.steady one other anchor extents (λ r lt. same r (omega (arith, lt, declared))) (subst (λ k. IsAnchorBelow k anchor) (sym declared) below);
+  }
+
   abbrev entries : Trail
   entries = block_trail body s
 
   pub program-passes : (layouts : List Layout) → length layouts ≡ row_count → IsWellFormedBlock n body → BlockHasForms body → MachinePasses n table moves (opening n room moves body s layouts) (run_block body s) (block_trail body s)
   program-passes layouts laid ok forms = by_completion r.completion
-      (block-goes table row_count moves code n many declared (record { sized = tabled.copies; steady = tabled.steady }) body n 2 1 1 slots rows s ok forms fit fits (omega (arith, roomy)) (has-front code 2 (block_code n moves body n 2 1 1) (Jump 1 ∷ []) all.1.1) (omega arith)
+      (block-goes table row_count moves code n many declared lie body n 2 1 1 slots rows s ok forms fit fits (omega (arith, roomy)) (has-front code 2 (block_code n moves body n 2 1 1) (Jump 1 ∷ []) all.1.1) (omega arith)
       (omega arith) holds)
     where
       r : Run

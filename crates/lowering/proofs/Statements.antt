@@ -74,7 +74,7 @@ loop-trail F L S (Ok a) (Ok b) r3 I =
     ∙ ap (λ T. F ++ T) (sym (append_assoc L S (after_value (r3 >>= sequence a b) I)))
     ∙ sym (append_assoc F (L ++ S) (after_value (r3 >>= sequence a b) I))
 
-module _ (table : ArrayTable) (row_count : ℕ) (moves : ℕ → List NewMapping) (code : List Instruction) (n many : ℕ) (declared : length table.shapes ≡ n) (lie : HasCopies table) where
+module _ (table : ArrayTable) (row_count : ℕ) (moves : ℕ → List NewMapping) (code : List Instruction) (n many : ℕ) (declared : length table.shapes ≡ n) (lie : HasCopies table n) where
   -- ---- PRINT
 
   abbrev ShowsAll : Storage → ℕ → List PrintItem → List ℤ → List ℕ → Type 0

@@ -9,6 +9,7 @@ use Rattle.array_meaning.specs.Terms.{Term, Number, Scalar, Index, Element, Sect
 use Rattle.array_meaning.specs.Statements as statements
 use Rattle.array_meaning.specs.Statements.{Mark, Unmarked, Outermost, Item, Text, Value, Elements, SectionAssignment, ElementAssignment, Block, Done, Then, Statement, AssignScalar, AssignElement, AssignSection, If, Do, Where, Forall, Stop, Exit, Cycle, Continue, Redistribute, Arms, NoArm, Arm}
 use Rattle.node_code.specs.Instructions.{NewMapping, Instruction, Remap}
+use Rattle.code_meaning.specs.Beside.{Anchor}
 use Rattle.code_meaning.specs.Instructions.{ArrayTable, meaning_of}
 use Rattle.machine_steps.specs.Layout.{AreOwned, IsDealt, Layout}
 use Rattle.machine_steps.specs.SameLayouts.{is_same_layout}
@@ -26,7 +27,7 @@ use Rattle.lowering.proofs.ValidNests.{each-of-nest}
 use Rattle.lowering.proofs.Folding.{fold-is}
 
 module _ (count n : ℕ) (shapes : List Shape) (table : ArrayTable) (moves : ℕ → List NewMapping) (few : length shapes ≤ n)
-    (dealt : (layouts : List Layout) → AreOwned count layouts → (ns : List ℕ) → IsDealt count (table.copies layouts ns))
+    (dealt : (layouts : List Layout) → AreOwned count layouts → (anchor : Option Anchor) (ns : List ℕ) → IsDealt count (table.copies layouts anchor ns))
     (same : (one other : Layout) → is_same_layout one other ≡ true → one ≡ other)
     (moving : (line : ℕ) → IsValidInstr count shapes (meaning_of table (Remap line (moves line)))) where
   abbrev AllValid : List Instruction → Type 0
@@ -115,7 +116,7 @@ module _ (count n : ℕ) (shapes : List Shape) (table : ArrayTable) (moves : ℕ
 
   forall-mask-valid : (line : ℕ) (over : List Sub) (mask : Option Term) → AllValid (forall_mask_code n line over mask)
   forall-mask-valid line over None = tt
-  forall-mask-valid line over (Some t) = ((few, λ layouts declared owned slots. dealt layouts owned _), (tt, (tt, tt)))
+  forall-mask-valid line over (Some t) = ((few, λ layouts declared owned slots. dealt layouts owned None _), (tt, (tt, tt)))
 
   forall-assignments-valid : (over : List Sub) (mask : Option When) (xs : List ElementAssignment) → AllValid (forall_assignments_code over mask xs)
   forall-assignments-valid over mask [] = tt
@@ -132,7 +133,7 @@ module _ (count n : ℕ) (shapes : List Shape) (table : ArrayTable) (moves : ℕ
     jump = λ target. tt;
     jump_if = λ target x. tt;
     par = λ p. tt;
-    makes = λ copy over start le. (omega (arith, few, le), λ layouts declared owned slots. dealt layouts owned _);
+    makes = λ copy over start le. (omega (arith, few, le), λ layouts declared owned slots. dealt layouts owned None _);
     verdict = tt;
     folds = λ copy j x. fold-is j;
     lasts = λ copy set x. same;
@@ -166,7 +167,7 @@ module _ (count n : ℕ) (shapes : List Shape) (table : ArrayTable) (moves : ℕ
         both (parts_code line b mask) _ (parts-valid line b mask ok.0) (
           tt,
           (
-            (few, λ layouts declared owned slots. dealt layouts owned _),
+            (few, λ layouts declared owned slots. dealt layouts owned None _),
             (tt, (tt, both (masked_code (b + parts_slots mask) _ body) _ (masked-valid (b + parts_slots mask) _ body ok.1) (masked-valid (b + parts_slots mask) _ others ok.2))),
           ),
         )

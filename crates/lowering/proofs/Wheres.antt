@@ -1,5 +1,6 @@
 -- The code of a WHERE does what it means.
 use Rattle.node_code.specs.Instructions.{NewMapping, Instruction, OwnLimits, MakeCopy, ParCopy, Verdict}
+use Rattle.code_meaning.specs.Beside.{Anchor}
 use Rattle.code_meaning.specs.Instructions.{go_on_if, ArrayTable}
 use Rattle.std.proofs.Common.{max, ◌≡◌, ℕ, ◌+◌, ◌≤◌, List, [], ◌∷◌, ◌++◌, length, ℤ, pos, Bool, true, false, Option, Some, None, Result, Ok, Err, refl, sym, ap, ◌∙◌, subst, arith, length-append, slice_index_or}
 use Rattle.machine_steps.specs.Layout.{Layout, size_of}
@@ -41,7 +42,7 @@ pub after-made : {A B : Type 0} (q : Result A Cause) (g : A → B) (F : B → Tr
 after-made (Ok a) g F = refl
 after-made (Err c) g F = refl
 
-module _ (table : ArrayTable) (row_count : ℕ) (moves : ℕ → List NewMapping) (code : List Instruction) (n many leave again : ℕ) (sized : (layouts : List Layout) (ns : List ℕ) → size_of (table.copies layouts ns) ≡ space_count ns) where
+module _ (table : ArrayTable) (row_count : ℕ) (moves : ℕ → List NewMapping) (code : List Instruction) (n many leave again : ℕ) (sized : (layouts : List Layout) (anchor : Option Anchor) (ns : List ℕ) → size_of (table.copies layouts anchor ns) ≡ space_count ns) where
   -- the copy isn't kept any longer
   pub forget : (T : Trail) (copy : Option (List ℤ)) (to b : ℕ) (slots : List ℤ) (m : Place row_count) (r : Run) → Goes table row_count moves code n many copy leave again T to b slots m r
       → Goes table row_count moves code n many None leave again T to b slots m r

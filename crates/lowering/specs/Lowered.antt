@@ -1,6 +1,6 @@
 -- Of the claim.
 -- What it is for a program to be lowered: the machine over its code ends as it does.
-use Rattle.std.specs.Prelude.{◌≡◌, ℕ, ◌<◌, List, [], ◌++◌, length, map, replicate, slice_index_or, ℤ, pos, None}
+use Rattle.std.specs.Prelude.{◌≡◌, ℕ, ◌<◌, List, [], ◌++◌, length, map, replicate, slice_get, slice_index_or, ℤ, pos, Option, None}
 use Rattle.storage.specs.Storage.{row_of}
 use Rattle.array_meaning.specs.Faults.{Fault}
 use Rattle.array_meaning.specs.State.{State, scalar, array}
@@ -17,7 +17,8 @@ use Rattle.statement_trail.specs.Trail.{Trail}
 use Rattle.lowered_expressions.specs.Passed.{passed, IsTrail}
 use Rattle.code_meaning.specs.Flat.{slot}
 use Rattle.node_code.specs.Instructions.{NewMapping, Instruction}
-use Rattle.code_meaning.specs.Instructions.{ArrayTable, meaning_of}
+use Rattle.code_meaning.specs.Beside.{Anchor}
+use Rattle.code_meaning.specs.Instructions.{ArrayTable, IsAnchorBelow, meaning_of}
 use Rattle.program_code.specs.StatementCode.{block_slots, program_code}
 
 -- scalars and arrays have one numbering, by the places of n declared names
@@ -41,11 +42,14 @@ opening n room moves body s layouts = record {
   printed = s.printed;
 }
 
--- the arrays as declared, and copies with a layout that has an element for each tuple of their space, and that doesn't depend on how other rows lie
+-- the arrays as declared, and copies with a layout that has an element for each tuple of their space. Where what is assigned is an element of a
+-- declared array, or isn't said, the layout depends on how the declared arrays lie alone
 pub record IsTable (s : State) (table : ArrayTable) : Type 0 where
   pub shapes : table.shapes ≡ map (λ a. a.dims) s.arrays
-  pub copies : (layouts : List Layout) (extents : List ℕ) → size_of (table.copies layouts extents) ≡ space_count extents
-  pub steady : (one other : List Layout) (extents : List ℕ) → table.copies one extents ≡ table.copies other extents
+  pub copies : (layouts : List Layout) (anchor : Option Anchor) (extents : List ℕ) → size_of (table.copies layouts anchor extents) ≡ space_count extents
+  pub steady : (one other : List Layout) (anchor : Option Anchor) (extents : List ℕ)
+      → ((r : ℕ) → r < length table.shapes → slice_get one r ≡ slice_get other r) → IsAnchorBelow (length table.shapes) anchor
+      → table.copies one anchor extents ≡ table.copies other anchor extents
 
 -- the slots of the declared names are the scalars, and the rows the arrays, of which there are as many as names
 abbrev pub IsLeft : ℕ → Machine Instruction Fault → State → Type 0

@@ -1,6 +1,6 @@
 //! Programs as node code.
 
-ghost use Rattle.std.specs.Prelude.{◌≡◌, ◌<◌, ◌≤◌, ◌+◌, ℕ, List, length, true};
+ghost use Rattle.std.specs.Prelude.{◌≡◌, ◌<◌, ◌≤◌, ◌+◌, ℕ, List, length, Option, true};
 ghost use Rattle.syntax_tree.specs.Statement as syntax;
 ghost use Rattle.name_table.specs.declared.names.Entry.{Entry};
 ghost use Rattle.hpf_base.specs.declared.index.Shape.{Shape};
@@ -19,6 +19,7 @@ ghost use Rattle.lowered_expressions.specs.WellFormed.{IsWellFormedBlock};
 ghost use Rattle.lowering.specs.Ranks.{AreFewDims, BlockKeepsRanks};
 ghost use Rattle.machine_steps.specs.Layout.{AreOwned, IsDealt, Layout};
 ghost use Rattle.machine_steps.specs.SameLayouts.{is_same_layout};
+ghost use Rattle.code_meaning.specs.Beside.{Anchor};
 ghost use Rattle.code_meaning.specs.Instructions.{ArrayTable, meaning_of};
 ghost use Rattle.node_code.specs.Instructions.{NewMapping, Remap};
 ghost use Rattle.code_meaning.specs.ValidCode.{CodeTable, IsValid, IsValidNodeCode};
@@ -57,7 +58,8 @@ pub fn outcomes_lowered()
 /// owner, and the values of reductions are joined alike in any order and grouping.
 pub fn code_is_valid()
     ensures { (count n : ℕ) (shapes : List Shape) (table : ArrayTable) (moves : ℕ → List NewMapping) (body : Block)
-        → length shapes ≤ n → ((layouts : List Layout) → AreOwned count layouts → (extents : List ℕ) → IsDealt count (table.copies layouts extents))
+        → length shapes ≤ n
+        → ((layouts : List Layout) → AreOwned count layouts → (anchor : Option Anchor) (extents : List ℕ) → IsDealt count (table.copies layouts anchor extents))
         → ((one other : Layout) → is_same_layout one other ≡ true → one ≡ other)
         → ((line : ℕ) → IsValidInstr count shapes (meaning_of table (Remap line (moves line))))
         → IsWellFormedBlock n body → IsValidCode (meaning_of table) count shapes (program_code n moves body) }

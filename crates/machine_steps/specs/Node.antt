@@ -321,11 +321,12 @@ module _ {C F : Type 0} (count : ℕ) where
     substep = 0;
   })
 
+  -- each position is one node's to count: that of the least owner
   abbrev pub own_last : (copy set : ℕ) → (Layout → Layout → Bool) → Node C F → Option Positioned
   own_last copy set alike a =
       if lie_alike alike (slice_get a.layouts copy) (slice_get a.layouts set)
       then last_passing
-      (λ at. owns_spot a.layouts a.id (record { row = copy; at = at }) && is_one (local_read a.layouts a.id a.pieces (record { row = set; at = at })))
+      (λ at. (least_owner_of count a.layouts (record { row = copy; at = at }) == a.id) && is_one (local_read a.layouts a.id a.pieces (record { row = set; at = at })))
       (λ at. record { at = at; value = local_read a.layouts a.id a.pieces (record { row = copy; at = at }) })
       (slice_index_or (sizes a.layouts) copy 0)
       else None

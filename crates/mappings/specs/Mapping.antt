@@ -1,4 +1,4 @@
--- Of a promise.
+-- Of the claim.
 -- Which lines, shapes and mappings are valid, and which subscripts a mapping takes.
 use Rattle.std.specs.Prelude.{◌≡◌, ◌≢◌, ℕ, ◌*◌, ◌≤◌, ◌<◌, ℤ, pos, ◌≤ℤ◌, FitsSigned, unsigned_abs, cond, ⊤, List, length, map, sum, All, AllPairs, slice_get, Option, Some, None}
 use Rattle.std.specs.Int.{w64}

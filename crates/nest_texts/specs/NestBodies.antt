@@ -1,6 +1,6 @@
 -- Of a promise.
 -- The bodies of nests as the machine's, and how their copies lie.
-use Rattle.std.specs.Prelude.{◌≡◌, List, [], ℤ, Ok}
+use Rattle.std.specs.Prelude.{◌≡◌, List, [], ℤ, None, Ok}
 use Rattle.machine_steps.specs.Layout.{Layout}
 use Rattle.node_code.specs.Flat.{Flat}
 use Rattle.code_meaning.specs.Flat.{flat_value, slots_value}
@@ -13,7 +13,7 @@ use Rattle.nest_machine.specs.Body.{Bounds, Body, Arms}
 
 -- how copies of a nest lie: with a value for each iteration
 abbrev pub nest_layout : ArrayTable → List Sub → List Layout → List ℤ → Layout
-nest_layout table over layouts slots = table.copies layouts (copies_extents over slots)
+nest_layout table over layouts slots = table.copies layouts None (copies_extents over slots)
 
 -- an expression over the slots that can't fault
 abbrev pub CantFault : Flat → Type 0

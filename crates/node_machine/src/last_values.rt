@@ -48,7 +48,7 @@ impl Node {
         self.last_round(round, numbers, last.slot)
     }
 
-    /// The numbers of the last value that is set, of those that the node owns.
+    /// The numbers of the last value that is set, of those whose least owner the node is.
     fn own_last(&self, last: LastValue) -> Result<Vec<i64>, OutOfMemory>
         ensures { IfOk result (λ v. v.items ≡ positioned_values (own_last self.now.nodes last.copy last.set is_same_layout self.now)) }
     {
@@ -109,12 +109,12 @@ impl OwnLast {
     }
 }
 
-/// The value of a copy at the last position where the copy `set` is 1, with the position, of those that the node owns, if there is one and
-/// the copies lie alike.
+/// The value of a copy at the last position where the copy `set` is 1, with the position, of those whose least owner the node is, if there is
+/// one and the copies lie alike.
 fn own_last(owners: &Owners, id: u32, pieces: &[Row], copy: usize, set: usize) -> Option<Positioned>
     requires { id < owners.now.nodes }
     ensures { positions result ≡ (if lie_alike is_same_layout (slice_get owners.now.layouts copy) (slice_get owners.now.layouts set)
-        then last_set owners.now.layouts id pieces.now copy set (slice_index_or (sizes owners.now.layouts) copy 0) else None) }
+        then last_set owners.now.layouts id pieces.now owners.now.nodes copy set (slice_index_or (sizes owners.now.layouts) copy 0) else None) }
 {
     if lie_alike(owners, copy, set) {
         last_set(owners, id, pieces, copy, set)
@@ -136,11 +136,12 @@ fn lie_alike(owners: &Owners, copy: usize, set: usize) -> bool
     }
 }
 
-/// The value of a copy at the last position where the copy `set`, which lies alike, is 1, with the position, of those that the node owns.
+/// The value of a copy at the last position where the copy `set`, which lies alike, is 1, with the position, of those whose least owner the
+/// node is.
 fn last_set(owners: &Owners, id: u32, pieces: &[Row], copy: usize, set: usize) -> Option<Positioned>
     requires one { id < owners.now.nodes }
     requires alike { lie_alike is_same_layout (slice_get owners.now.layouts copy) (slice_get owners.now.layouts set) ≡ true }
-    ensures { positions result ≡ last_set owners.now.layouts id pieces.now copy set (slice_index_or (sizes owners.now.layouts) copy 0) }
+    ensures { positions result ≡ last_set owners.now.layouts id pieces.now owners.now.nodes copy set (slice_index_or (sizes owners.now.layouts) copy 0) }
 {
     let mut last = OwnLast { value: None };
     for at in 0..owners.size(copy) {
@@ -150,7 +151,7 @@ fn last_set(owners: &Owners, id: u32, pieces: &[Row], copy: usize, set: usize) -
     last.value
 }
 
-/// The value of a copy at a position, if the node owns it and the copy `set` is 1 there.
+/// The value of a copy at a position, if the node is its least owner and the copy `set` is 1 there.
 fn set_element(
     owners: &Owners,
     id: u32,
@@ -162,9 +163,10 @@ fn set_element(
     requires one { id < owners.now.nodes }
     requires alike { lie_alike is_same_layout (slice_get owners.now.layouts copy) (slice_get owners.now.layouts set) ≡ true }
     requires at { at < slice_index_or (sizes owners.now.layouts) copy 0 }
-    ensures { positions result ≡ (if is_set_at owners.now.layouts id pieces.now copy set at then Some (element_at owners.now.layouts id pieces.now copy at) else None) }
+    ensures { positions result ≡ (if is_set_at owners.now.layouts id pieces.now owners.now.nodes copy set at
+        then Some (element_at owners.now.layouts id pieces.now copy at) else None) }
 {
-    if !owners.owns(id, Spot { row: copy, at }) {
+    if owners.least_owner(Spot { row: copy, at }) != id {
         return None;
     }
     if local_value(owners, id, pieces, Spot { row: set, at }) != 1 {

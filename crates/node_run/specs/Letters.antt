@@ -7,7 +7,7 @@ use Rattle.storage.specs.Storage.{row_of, read}
 use Rattle.reduction_tree.specs.Tree.{after_rounds}
 use Rattle.machine_steps.specs.Agrees.{Own, Exchange, part_exchange, round_exchange, tree_exchanges, part_of, NodesSegment, AreCarried}
 use Rattle.machine_steps.specs.Instr.{Status, Running, Finished, Faulted, Outcome, Nothing, Tuples, Fold, Instr, Local, Fetch, Store, Par, Verdict, Reduce, MakeCopy, FoldCopy, LastCopy, Remap, Print}
-use Rattle.machine_steps.specs.Layout.{Layout, owns_spot, least_owner_of}
+use Rattle.machine_steps.specs.Layout.{Layout, least_owner_of}
 use Rattle.machine_steps.specs.Machine.{Machine, Kept, outcome_of, keep, earlier, lie_alike, is_one, last_passing, instr_at, step}
 use Rattle.machine_steps.specs.Message.{Part, par_part, reduce_part}
 use Rattle.machine_steps.specs.Node.{FaultValues, kept_values, option_values, positioned_values, join_options, join_below, outcome_value, Positioned, later}
@@ -69,12 +69,12 @@ module _ {C F : Type 0} where
         (λ at. if least_owner_of count m.layouts (record { row = copy; at = at }) == p then Some (read m.rows (record { row = copy; at = at })) else None)
         (length (row_of m.rows copy))
 
-    -- the last element of a copy that a node owns and that was assigned, with its position
+    -- the last element of a copy whose least owner a node is and that was assigned, with its position
     abbrev pub last_share : (copy set : ℕ) → (Layout → Layout → Bool) → Machine C F → ℕ → Option Positioned
     last_share copy set alike m p =
         if lie_alike alike (slice_get m.layouts copy) (slice_get m.layouts set)
         then last_passing
-        (λ at. owns_spot m.layouts p (record { row = copy; at = at }) && is_one (read m.rows (record { row = set; at = at })))
+        (λ at. (least_owner_of count m.layouts (record { row = copy; at = at }) == p) && is_one (read m.rows (record { row = set; at = at })))
         (λ at. record { at = at; value = read m.rows (record { row = copy; at = at }) }) (length (row_of m.rows copy))
         else None
 

@@ -21,15 +21,15 @@ use Rattle.machine_steps.specs.Layout.{Layout}
 use Rattle.machine_steps.specs.Instr.{Status, Running, Finished, Faulted}
 use Rattle.machine_steps.specs.Machine.{Machine, steps}
 use Rattle.machine_steps.specs.Agrees.{Agree, IsOver, IsValidCode, IsWhole, NodesSegment, by_number, first_own, standing}
-use Rattle.owner_tables.proofs.CopyLaws.{copy-dealt, copy-size}
 use Rattle.owner_tables.proofs.SameLayouts.{same_layouts}
 use Rattle.covering_rounds.proofs.Covering.{rounds-cover}
+use Rattle.code_meaning.proofs.Beside.{are-dealt}
 use Rattle.code_meaning.specs.Instructions.{ArrayTable, meaning_of, remappings}
 use Rattle.node_code.specs.Instructions.{Instruction, NewMapping}
 use Rattle.code_meaning.specs.FaultValues.{fault_values}
 use Rattle.code_meaning.specs.ProgramText.{Text, table_on, text, text_meaning}
 use Rattle.nest_standing.proofs.ValidPrograms.{trail_lowered, valid}
-use Rattle.array_meaning.specs.Resolution.{resolved_block}
+use Rattle.array_meaning.specs.Resolution.{initial_state, resolved_block}
 use Rattle.nest_items.specs.BlockForms.{BlockHasForms}
 use Rattle.fitting_states.specs.FittingStates.{ProgramFits}
 use Rattle.nest_standing.proofs.Programs.{program_forms}
@@ -45,6 +45,7 @@ use Rattle.nodes_lowered.specs.TrailOnNodes.{TrailOnNodes}
 use Rattle.nodes_lowered.proofs.Laid.{laid-many, names-many, opening-whole}
 use Rattle.nodes_lowered.proofs.LastNodes.{ended-so, last-nodes}
 use Rattle.nodes_lowered.proofs.SameCode.{steps-code}
+use Rattle.nodes_lowered.proofs.Tables.{tables-are}
 
 -- a run that has ended is over
 end-over : (s : Status Fault) (e : End) → end_by_status s ≡ Some e → IsOver s
@@ -73,7 +74,7 @@ module _ (nodes : ℕ) (p : MainProgram) (maps : List Mapping) (moves : ℕ → 
   as_many = names-many nodes p layouts laid
 
   valid-code : IsValidCode (meaning_of table) nodes shapes m.code
-  valid-code = valid nodes p shapes table moves (omega (arith, as_many)) (λ layouts owned extents. copy-dealt nodes extents some) same_layouts
+  valid-code = valid nodes p shapes table moves (omega (arith, as_many)) (λ layouts owned anchor extents. are-dealt nodes layouts anchor extents some owned) same_layouts
       (λ line. (dealt line, λ ls declared owned. rounds-cover nodes (remappings maps (moves line)) ls owned)) rules.resolved rules.bodies_fine
 
   -- the declared names lie after steps as the trail says that is passed
@@ -87,7 +88,7 @@ module _ (nodes : ℕ) (p : MainProgram) (maps : List Mapping) (moves : ℕ → 
   lowered : MachinePasses n table moves m (program_run p) (serial_trail p)
   lowered =
       let enough : program_copies p ≤ program_copies p = omega arith in
-      trail_lowered p (program_copies p) moves table layouts (record { shapes = refl; copies = λ layouts extents. copy-size nodes extents; steady = λ one other extents. refl }) enough
+      trail_lowered p (program_copies p) moves table layouts (tables-are nodes maps (initial_state (entries p))) enough
       (laid-many nodes (program_copies p) (entries p) layouts laid) rules.resolved rules.bodies_fine forms fit
 
   -- the same over its texts: they are valid, the machine is whole, and it comes to its end

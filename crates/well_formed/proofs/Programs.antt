@@ -1,5 +1,5 @@
 -- Programs that break no rule.
-use Rattle.std.proofs.Common.{◌≡◌, ◌≤◌, ◌+◌, ℕ, List, [], length, true, sym, ap, subst, ◌∙◌}
+use Rattle.std.proofs.Common.{◌≡◌, ◌≤◌, ◌+◌, ℕ, List, [], length, true, Option, sym, ap, subst, ◌∙◌}
 use Rattle.std.proofs.lemmas.List.{length-map}
 use Rattle.std.specs.List.{flat_map}
 use Rattle.hpf_base.specs.FirstBreach.{Among}
@@ -24,6 +24,7 @@ use Rattle.statement_trail.specs.Trail.{serial_trail}
 use Rattle.machine_steps.specs.Agrees.{IsValidCode, IsValidInstr}
 use Rattle.machine_steps.specs.Layout.{AreOwned, IsDealt, Layout}
 use Rattle.machine_steps.specs.SameLayouts.{is_same_layout}
+use Rattle.code_meaning.specs.Beside.{Anchor}
 use Rattle.code_meaning.specs.Instructions.{ArrayTable, meaning_of}
 use Rattle.node_code.specs.Instructions.{NewMapping, Remap}
 use Rattle.lowering.specs.Lowered.{IsState, IsTable, MachineEnds, MachinePasses, opening}
@@ -84,7 +85,7 @@ module _ (p : MainProgram) (room : ℕ) (moves : ℕ → List NewMapping) (table
       (well_formed p rules.names bodies) forms
 
 pub valid : (count : ℕ) (p : MainProgram) (shapes : List Shape) (table : ArrayTable) (moves : ℕ → List NewMapping) → length shapes ≤ length (entries p) →
-    ((layouts : List Layout) → AreOwned count layouts → (extents : List ℕ) → IsDealt count (table.copies layouts extents)) →
+    ((layouts : List Layout) → AreOwned count layouts → (anchor : Option Anchor) (extents : List ℕ) → IsDealt count (table.copies layouts anchor extents)) →
     ((one other : Layout) → is_same_layout one other ≡ true → one ≡ other) →
     ((line : ℕ) → IsValidInstr count shapes (meaning_of table (Remap line (moves line)))) → HasNoBreach p → NoBreach (Among (body_breaches (entries p) p.body)) →
     IsValidCode (meaning_of table) count shapes (program_code (length (entries p)) moves (resolved_block (entries p) p.body))

@@ -1,6 +1,6 @@
 //! Programs that break no rule.
 
-ghost use Rattle.std.specs.Prelude.{◌≡◌, ◌≤◌, ◌+◌, ℕ, List, length, true};
+ghost use Rattle.std.specs.Prelude.{◌≡◌, ◌≤◌, ◌+◌, ℕ, List, length, Option, true};
 ghost use Rattle.hpf_base.specs.FirstBreach.{Among};
 ghost use Rattle.hpf_base.specs.Refusal.{NoBreach};
 ghost use Rattle.hpf_base.specs.declared.index.Shape.{Shape};
@@ -15,6 +15,7 @@ ghost use Rattle.statement_trail.specs.Trail.{serial_trail};
 ghost use Rattle.machine_steps.specs.Agrees.{IsValidCode, IsValidInstr};
 ghost use Rattle.machine_steps.specs.Layout.{AreOwned, IsDealt, Layout};
 ghost use Rattle.machine_steps.specs.SameLayouts.{is_same_layout};
+ghost use Rattle.code_meaning.specs.Beside.{Anchor};
 ghost use Rattle.code_meaning.specs.Instructions.{ArrayTable, meaning_of};
 ghost use Rattle.node_code.specs.Instructions.{NewMapping, Remap};
 ghost use Rattle.code_meaning.specs.ValidCode.{CodeTable, IsValid, IsValidNodeCode};
@@ -61,7 +62,8 @@ pub fn accepted_trails_lowered()
 /// Every instruction of its code is one that so many nodes can run, where the redistribution of each line is and layouts that compare as the same are one.
 pub fn accepted_code_is_valid()
     ensures { (count : ℕ) (p : MainProgram) (shapes : List Shape) (table : ArrayTable) (moves : ℕ → List NewMapping)
-        → length shapes ≤ length (entries p) → ((layouts : List Layout) → AreOwned count layouts → (extents : List ℕ) → IsDealt count (table.copies layouts extents))
+        → length shapes ≤ length (entries p)
+        → ((layouts : List Layout) → AreOwned count layouts → (anchor : Option Anchor) (extents : List ℕ) → IsDealt count (table.copies layouts anchor extents))
         → ((one other : Layout) → is_same_layout one other ≡ true → one ≡ other)
         → ((line : ℕ) → IsValidInstr count shapes (meaning_of table (Remap line (moves line))))
         → HasNoBreach p → NoBreach (Among (body_breaches (entries p) p.body))

@@ -1,0 +1,5 @@
+pub mod Beside
+pub mod CopyLaws
+pub mod Inside
+mod Laid
+pub mod Valid

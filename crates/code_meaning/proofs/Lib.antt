@@ -1,0 +1,1 @@
+pub use Rattle.aligned_copies.proofs.Beside
