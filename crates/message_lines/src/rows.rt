@@ -116,7 +116,7 @@ fn owners_of_nest(
     }) }
 {
     let mut rows = first_rows(alloc, owners, count)?;
-    let copy = OwnerTable::of_copy(alloc, owners.nodes(), extents)?;
+    let copy = owners.copy_table(None, extents)?;
     grow_to_whens(&mut rows, &copy, &p.whens)?;
     grow_to_all(&mut rows, &copy, &p.copies)?;
     grow_to_left(&mut rows, &copy, &p.left)?;
@@ -183,7 +183,7 @@ fn owners_with_copy(
     }) }
 {
     let mut rows = first_rows(alloc, owners, count)?;
-    let copy = OwnerTable::of_copy(alloc, owners.nodes(), extents)?;
+    let copy = owners.copy_table(None, extents)?;
     rows.push(copy)?;
     Ok(rows)
 }

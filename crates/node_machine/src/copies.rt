@@ -102,7 +102,7 @@ impl Node {
         }) }
         ensures err { OnErr result (self.new ≡ self.old) }
     {
-        let table = OwnerTable::of_copy(self.alloc, self.owners.nodes(), &made.extents)?;
+        let table = self.owners.copy_table(None, &made.extents)?;
         let values = piece_of_one(self.alloc, &table, self.id, &made.start)?;
         self.owners.set(made.copy, table);
         set_piece(&mut self.pieces, made.copy, values);

@@ -1,5 +1,6 @@
 mod AlikeLaws
-pub mod CopyLaws
+pub use Rattle.aligned_copies.proofs.CopyLaws
+mod BesideLaws
 mod ColumnLaws
 mod Counting
 mod Dealt

@@ -1,6 +1,7 @@
 pub mod Alike
 pub mod Columns
-pub mod Layouts
+pub mod CopyTables
+pub use Rattle.aligned_copies.specs.Layouts
 pub mod Lines
 pub mod Numbers
 pub mod Samples

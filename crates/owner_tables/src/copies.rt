@@ -1,12 +1,17 @@
 //! How the elements of a copy lie.
 
-ghost use Rattle.std.specs.Prelude.{◌≡◌, ◌<◌, ◌≤◌, ◌^◌, [], ◌∷◌, All, IfOk, length, map, pos, replicate};
+ghost use Rattle.std.specs.Prelude.{◌≡◌, ◌<◌, ◌≤◌, ◌^◌, [], ◌∷◌, All, IfOk, IfSome, length, map, option_map, pos, replicate};
 ghost use Rattle.hpf_base.specs.declared.limits.TheConstants.{MAX_ELEMENTS, MAX_NODES, MAX_RANK};
 ghost use Rattle.hpf_base.specs.ElementOrder.{product};
 ghost use Rattle.mappings.specs.Owner.{block_line};
 ghost use Rattle.machine_steps.specs.CopyLayout.{copy_dims, copy_mapping, copy_shape, layout_of};
+ghost use Rattle.copy_anchors.specs.Anchors.{align_of};
+ghost use Rattle.owner_tables.specs.CopyTables.{good_layout, good_mapping, laid_out};
 ghost use Rattle.owner_tables.specs.Layouts.{IsLaid};
 
+use crate::owner_table::OwnerTable;
+use align_map::compose;
+use copy_anchors::{Subscript, good_subscripts};
 use hpf_base::{Grid, Index, MAX_ELEMENTS, MAX_RANK, OutOfMemory, Shape};
 use mappings::{AlignDim, Form, Line, MapDim, MapDims, Mapping};
 use std::alloc::Global;
@@ -35,6 +40,49 @@ pub(crate) fn copy_layout(
     let shape = copy_shape(alloc, extents)?;
     let mapping = copy_mapping(alloc, nodes, extents)?;
     Ok(CopyLayout { shape, mapping })
+}
+
+/// How a copy that has these extents lies beside a row, where the subscripts of what is assigned there are good.
+pub(crate) fn good_layout(
+    alloc: Global,
+    table: &OwnerTable,
+    extents: &[u32],
+    subscripts: &[Subscript],
+) -> Result<Option<CopyLayout>, OutOfMemory>
+    requires rank { length extents.now ≤ MAX_RANK }
+    requires each { All (λ extent. extent ≤ MAX_ELEMENTS) extents.now }
+    requires size { product extents.now ≤ MAX_ELEMENTS }
+    ensures value { IfOk result (λ copy. option_map laid_out copy ≡ good_layout table.now.layout extents.now (map align_of subscripts.now)) }
+    ensures laid { IfOk result (λ copy. IfSome copy (λ c. IsLaid table.now.nodes (laid_out c))) }
+{
+    match good_mapping(alloc, table, extents, subscripts)? {
+        Some(mapping) => {
+            let shape = copy_shape(alloc, extents)?;
+            Ok(Some(CopyLayout { shape, mapping }))
+        }
+        None => Ok(None),
+    }
+}
+
+/// Its mapping there.
+fn good_mapping(
+    alloc: Global,
+    table: &OwnerTable,
+    extents: &[u32],
+    subscripts: &[Subscript],
+) -> Result<Option<Mapping>, OutOfMemory>
+    requires each { All (λ extent. extent ≤ MAX_ELEMENTS) extents.now }
+    requires size { product extents.now ≤ MAX_ELEMENTS }
+    ensures value { IfOk result (λ mapping. mapping ≡ good_mapping table.now.layout extents.now (map align_of subscripts.now)) }
+    ensures laid { IfOk result (λ mapping. IfSome mapping (λ m. IsLaid table.now.nodes (record { shape = copy_shape extents.now; mapping = m }))) }
+{
+    match good_subscripts(alloc, table.shape(), extents, subscripts)? {
+        Some(align) => {
+            let mapping = compose(alloc, table.mapping(), &align)?;
+            Ok(Some(mapping))
+        }
+        None => Ok(None),
+    }
 }
 
 /// The shape of the copy: its lower bounds are 1.

@@ -1,6 +1,7 @@
 //! Who owns each element of an array or of a copy, and where it lies there, as tables: *distributed array descriptors*.
 //!
-//! Comes in: the shape of an array and the mapping by which its elements lie on the nodes, or the extents of a copy. Goes out: for each
+//! Comes in: the shape of an array and the mapping by which its elements lie on the nodes, or the extents of a copy, and its anchor where it has
+//! one: the element that is assigned at each of its positions. Goes out: for each
 //! element its owners, the owner with the least number, and the local address, each by a look-up; of each node how many elements it owns,
 //! the positions of these, and the nodes that own them too; and by two tables of a row which owners elements have by both. Of elements at equal
 //! distances `held_line` finds those at the front that a node owns and that lie at equal distances in its piece, without a look-up for each.
@@ -17,7 +18,8 @@
 //! `Owners::owners`, `owns`, `least_owner`, `address`, `held`. Tables compare as alike exactly where they are the same:
 //! `lies_as`. Nobody owns an element that isn't there. The nodes that share what a node owns, and the positions of what
 //! it owns: `OwnerTable::sharers`, `owned_positions`. Elements among which each element of a row has one with the same
-//! owners in two tables: `samples`. A copy lies in blocks over all nodes on its last index: `OwnerTable::of_copy`. The
+//! owners in two tables: `samples`. A copy lies in blocks over all nodes on its last index: `OwnerTable::of_copy`; by how all rows lie it has
+//! the layout of its definition, beside the row of its anchor where that is good: `Owners::copy_table`. The
 //! value of an element that a node owns, by its pieces: `local_value`. Of elements at equal distances a front that a
 //! node owns and that lies at equal distances in its piece: `held_line`; the values of such a front: `push_held`.
 //! Values put at equal distances: `Row::set_line`.
@@ -26,6 +28,7 @@
 mod alike;
 mod columns;
 mod copies;
+mod copy_tables;
 mod held_values;
 mod lines;
 mod numbers;
@@ -37,6 +40,7 @@ mod same;
 mod samples;
 mod tables;
 
+pub use copy_anchors::{Anchor, Subscript};
 pub use held_values::{held_value, local_value, local_values, push_held};
 pub use lines::HeldLine;
 pub use owner_table::OwnerTable;

@@ -1,17 +1,21 @@
 //! The tables of all rows.
 
-ghost use Rattle.std.specs.Prelude.{◌≡◌, ℕ, ◌+◌, ◌*◌, ◌^◌, ◌<◌, ◌≤◌, ◌++◌, ◌∷◌, ◌&&◌, [], IfOk, IfSome, IsTrue, None, OnErr, OnOk, Some, filter, if◌then◌else◌, length, nat_lt, option_map, slice_index_or, slice_set, true};
+ghost use Rattle.std.specs.Prelude.{◌≡◌, ℕ, ◌+◌, ◌*◌, ◌^◌, ◌<◌, ◌≤◌, ◌++◌, ◌∷◌, ◌&&◌, [], All, IfOk, IfSome, IsTrue, None, OnErr, OnOk, Some, filter, if◌then◌else◌, length, nat_lt, option_copied, option_map, slice_index_or, slice_set, true};
 ghost use Rattle.std.specs.List.{range_with_len, slice_get};
-ghost use Rattle.hpf_base.specs.declared.limits.TheConstants.{MAX_NODES};
+ghost use Rattle.hpf_base.specs.declared.limits.TheConstants.{MAX_ELEMENTS, MAX_NODES, MAX_RANK};
+ghost use Rattle.hpf_base.specs.ElementOrder.{product};
 ghost use Rattle.machine_steps.specs.Layout.{AreOwned, address, count_passing, least_owner_of, owned_by, owned_in, owns_spot, size_of, sizes};
 ghost use Rattle.machine_steps.specs.Machine.{with_mapping};
+ghost use Rattle.aligned_copies.specs.Beside.{aligned_layout_of};
 ghost use Rattle.owner_tables.specs.Lines.{line_spot};
 ghost use Rattle.owner_tables.specs.Samples.{AreSamples, owners_by};
 ghost use Rattle.storage.specs.Spots.{spot_of};
 
+use crate::copy_tables::copy_table;
 use crate::lines::HeldLine;
 use crate::owner_table::OwnerTable;
 use crate::tables::Tables;
+use copy_anchors::Anchor;
 use hpf_base::OutOfMemory;
 use std::alloc::Global;
 use std::marker::Model;
@@ -129,6 +133,25 @@ impl Owners {
         ensures nodes { IfSome result (λ t. t.now.nodes ≡ self.now.nodes) }
     {
         self.tables.get(row)
+    }
+
+    /// The table of a copy that has these extents: where the anchor is good, each of its elements lies with the element that is assigned at
+    /// its position, by how the rows lie now, and else in blocks of its last index, one a node. A row that lies so already shares its table,
+    /// so that copies which lie alike have one.
+    pub fn copy_table(
+        &self,
+        anchor: Option<&Anchor>,
+        extents: &[u32],
+    ) -> Result<OwnerTable, OutOfMemory>
+        requires rank { length extents.now ≤ MAX_RANK }
+        requires each { All (λ extent. extent ≤ MAX_ELEMENTS) extents.now }
+        requires size { product extents.now ≤ MAX_ELEMENTS }
+        ensures { IfOk result (λ t. t ≡ record {
+          layout = aligned_layout_of self.now.nodes self.now.layouts (option_copied anchor.entry) extents.now;
+          nodes = self.now.nodes;
+        }) }
+    {
+        copy_table(self.alloc, self, anchor, extents)
     }
 
     /// Whether all rows are those of another, for as many nodes: true exactly where they are the same. It compares shapes and mappings, and

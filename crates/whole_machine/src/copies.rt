@@ -15,7 +15,7 @@ ghost use Rattle.whole_machine.specs.Places.{IsFor};
 use crate::machine::WholeMachine;
 use hpf_base::OutOfMemory;
 use node_code::{Evaluation, Flat, Sub};
-use owner_tables::{OwnerTable, Row};
+use owner_tables::Row;
 use slot_values::{copy_extents, flat_or_zero, selections_at};
 use term_values::extents;
 
@@ -97,7 +97,7 @@ impl WholeMachine {
         }) }
         ensures err { OnErr result (self.new ≡ self.old) }
     {
-        let table = OwnerTable::of_copy(self.alloc, self.owners.nodes(), extents)?;
+        let table = self.owners.copy_table(None, extents)?;
         let values = Row::of_one(self.alloc, *value, table.size())?;
         self.owners.set(copy, table);
         set_row(&mut self.rows, copy, values);

@@ -1,5 +1,4 @@
 use Rattle.std.proofs.Common.{◌≡◌, ℕ, List, ◌++◌, map, take, ap, ◌∙◌, append_assoc}
-use Rattle.machine_steps.specs.CopyLayout.{layout_of}
 use Rattle.machine_steps.specs.Layout.{Layout}
 use Rattle.message_text.specs.InstructionLines.{left_rows}
 use Rattle.node_code.specs.Texts.{nest_left, when}
@@ -23,6 +22,5 @@ returns c =
     let nodes = ap (λ (o : OwnersView). o.nodes) c.in_ok-grow_to_left.ensures ∙ ap (λ (o : OwnersView). o.nodes) c.in_ok-grow_to_all.ensures
     ∙ ap (λ (o : OwnersView). o.nodes) c.in_ok-grow_to_whens.ensures ∙ ap (λ (o : OwnersView). o.nodes) c.in_ok-rows.ensures in
     let all = layouts ∙ ap (λ ls. grown C ls E) (grown-on C L W A) ∙ grown-on C L (W ++ A) E ∙ ap (grown C L) (append_assoc W A E)
-    ∙ ap (λ (t : TableView). grown t.layout L (W ++ (A ++ E))) c.in_ok-copy.ensures
-    ∙ ap (λ n. grown (layout_of n c.args.extents.now) L (W ++ (A ++ E))) c.nodes.ensures.value in
+    ∙ ap (λ (t : TableView). grown t.layout L (W ++ (A ++ E))) c.in_ok-copy.ensures in
     λ i. record { layouts = all i; nodes = nodes i }

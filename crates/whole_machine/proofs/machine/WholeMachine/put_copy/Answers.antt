@@ -22,8 +22,8 @@ returns-clause-ok c =
     let copy = c.args.copy in
     let extents = c.args.extents.now in
     let here = subst (λ a. IsFor a.code a.control.at c.args.nodes) (sym is) c.requires.nodes in
-    let same : c.nodes.result ≡ c.args.nodes =
-    c.nodes.ensures.value ∙ c.self.invariant.nodes ∙ nodes-are p.nodes (mappings_of p.tables.items) p.shapes.items p.code.items k.control.at c.args.nodes here in
+    let same : k.owners.nodes ≡ c.args.nodes =
+    c.self.invariant.nodes ∙ nodes-are p.nodes (mappings_of p.tables.items) p.shapes.items p.code.items k.control.at c.args.nodes here in
     let lies : c.in_ok-table.table.layout ≡ layout_of c.args.nodes extents = ap (λ t. t.layout) c.in_ok-table.ensures ∙ ap (λ n. layout_of n extents) same in
     let fits : SFits w64 c.args.value.now = search rules in
     let values = c.in_ok-values.ensures ∙ (λ i. replicate ((c.size.ensures ∙ ap size_of lies) i) (to_z-of_z w64 c.args.value.now fits i)) in

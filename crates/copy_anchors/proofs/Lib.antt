@@ -1,0 +1,3 @@
+mod BoundLaws
+mod Empty
+mod Steps
