@@ -24,8 +24,9 @@ use Rattle.local_address.proofs.ElementLaws.{factors_some}
 use Rattle.local_address.proofs.Tuples.{each as each_subscript}
 use Rattle.machine_steps.specs.Layout.{Layout, count_passing, element_index, first, owned_by, size_of}
 use Rattle.machine_steps.proofs.Owners.{owned-inside}
-use Rattle.owner_tables.specs.declared.columns.Place.{Place}
-use Rattle.owner_tables.specs.Columns.{ColumnView, IsFilled, address_at, asked_number, column_of, columns_of, count_on, next_strides, no_place, parts_at, place_on, totals_of, weight_on}
+use Rattle.periodic_runs.specs.Runs.{no_place}
+use Rattle.periodic_runs.specs.declared.runs.Place.{Place}
+use Rattle.owner_tables.specs.Columns.{ColumnView, IsFilled, address_at, asked_number, column_of, columns_of, count_on, next_strides, parts_at, place_on, totals_of, weight_on}
 use Rattle.owner_tables.specs.Layouts.{IsLaid}
 use Rattle.owner_tables.specs.Numbers.{least_at}
 use Rattle.owner_tables.proofs.AlikeLaws.{element_index-rank}

@@ -11,9 +11,10 @@ use Rattle.local_address.specs.declared.axes.Axis.{Axis}
 use Rattle.local_address.specs.Runs.{axis_along, coordinate_on}
 use Rattle.local_address.proofs.ElementLaws.{factors_some}
 use Rattle.machine_steps.specs.Layout.{size_of}
-use Rattle.owner_tables.specs.declared.columns.Place.{Place}
+use Rattle.periodic_runs.specs.Runs.{no_place}
+use Rattle.periodic_runs.specs.declared.runs.Place.{Place}
 use Rattle.owner_tables.specs.declared.tables.Tables.TheInside.{Inside}
-use Rattle.owner_tables.specs.Columns.{AreRanked, ColumnView, column_of, columns_of, next_strides, no_place, place_of, place_on, weight, weight_on}
+use Rattle.owner_tables.specs.Columns.{AreRanked, ColumnView, column_of, columns_of, next_strides, place_of, place_on, weight, weight_on}
 use Rattle.owner_tables.specs.Tables.{AreTables, view_of}
 use Rattle.owner_tables.specs.Views.{TableView}
 use Rattle.owner_tables.proofs.Counting.{count, count-push}

@@ -7,7 +7,7 @@ use Rattle.std.proofs.lemmas.Nat.{div-add-mod', div-mul-add, div_below, mod-mul-
 use Rattle.hpf_base.specs.ElementOrder.{product}
 use Rattle.machine_steps.specs.Layout.{Layout, count_passing, owned_by, size_of}
 use Rattle.machine_steps.proofs.Owners.{owned-below}
-use Rattle.owner_tables.specs.declared.columns.Place.{Place}
+use Rattle.periodic_runs.specs.declared.runs.Place.{Place}
 use Rattle.owner_tables.specs.declared.tables.Tables.TheInside.{Inside}
 use Rattle.owner_tables.specs.Alike.{leader}
 use Rattle.owner_tables.specs.Columns.{ColumnView, address_at, extents_along, part_in, parts_at, place_of}

@@ -12,7 +12,8 @@ use Rattle.hpf_base.specs.ElementOrder.{product}
 use Rattle.hpf_base.specs.Grid.{node_coordinates}
 use Rattle.local_address.specs.declared.axes.Axis.{Axis}
 use Rattle.local_address.specs.Runs.{axis_along, coordinate_on, own_on}
-use Rattle.owner_tables.specs.declared.columns.Place.{Place}
+use Rattle.periodic_runs.specs.Runs.{no_place}
+use Rattle.periodic_runs.specs.declared.runs.Place.{Place}
 
 -- the coordinate in a dimension of the template at which a subscript stands; 0 where it is `*`
 abbrev pub asked : Line → Option ℤ → ℕ
@@ -49,9 +50,6 @@ pub record ColumnView : Type 0 where
   pub extent : ℕ
   pub places : List Place
   pub strides : List ℕ
-
-abbrev pub no_place : Place
-no_place = record { part = 0; rank = 0 }
 
 -- each place and each node has an entry
 pub record IsFilled (nodes : ℕ) (column : ColumnView) : Type 0 where

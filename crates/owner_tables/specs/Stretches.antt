@@ -2,7 +2,7 @@
 -- Elements at equal distances that have the same owners, by the dimensions of the array. Only private contracts cite it.
 use Rattle.std.specs.Prelude.{◌≡◌, ℕ, ◌+◌, ◌*◌, ◌<◌, ◌≤◌, List}
 use Rattle.hpf_base.specs.ElementOrder.{product}
-use Rattle.owner_tables.specs.declared.columns.Place.{Place}
+use Rattle.periodic_runs.specs.declared.runs.Place.{Place}
 use Rattle.owner_tables.specs.Columns.{ColumnView, address_at, extents_along, parts_at, place_of}
 
 -- a place of a dimension and so many others, each `step` places after the one before, add the same, and their ranks lie `apart`

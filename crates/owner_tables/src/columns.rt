@@ -1,33 +1,31 @@
 //! What the dimensions of an array say of its elements.
 
-ghost use Rattle.std.specs.Prelude.{◌≡◌, ℕ, ◌+◌, ◌*◌, ◌%◌, ◌/◌, ◌<◌, ◌≤◌, ◌^◌, ℤ, pos, ◌+ℤ◌, unsigned_abs, All, IfOk, length, map, replicate, slice_index_or, slice_set};
+ghost use Rattle.std.specs.Prelude.{◌≡◌, ℕ, ◌+◌, ◌*◌, ◌%◌, ◌/◌, ◌<◌, ◌≤◌, ◌^◌, ℤ, pos, ◌+ℤ◌, unsigned_abs, All, IfOk, [], length, map, replicate, slice_index_or, slice_set};
 ghost use Rattle.std.specs.List.{range_with_len};
 ghost use Rattle.hpf_base.specs.declared.limits.TheConstants.{MAX_NODES};
+ghost use Rattle.mappings.specs.declared.limits.TheConstants.{MAX_CYCLIC};
 ghost use Rattle.hpf_base.specs.ElementOrder.{product};
 ghost use Rattle.hpf_base.specs.Grid.{node_coordinates};
 ghost use Rattle.local_address.specs.Runs.{HasLine, InAxis, IsOfGrid, axis_along, own_on, procs_on};
-ghost use Rattle.owner_tables.specs.Columns.{IsFilled, address_at, column_of, count_on, next_strides, no_place, parts_at, place_on, weight, weight_on};
+ghost use Rattle.periodic_runs.specs.Runs.{no_place};
+ghost use Rattle.owner_tables.specs.Columns.{IsFilled, address_at, column_of, count_on, next_strides, parts_at, place_on, weight, weight_on};
 
+use congruences::{inverse_of, residue_of};
 use hpf_base::{Grid, NodeId, OutOfMemory};
 use local_address::{Axis, axis_along, coordinate_on, own_on, procs_on};
-use mappings::Mapping;
+use mappings::{Form, Mapping};
+use periodic_runs::{Place, Places};
 use std::alloc::Global;
 use std::marker::Model;
 
-/// A place on a dimension.
-#[derive(Clone, Copy)]
-pub(crate) struct Place {
-    /// What it adds to the number of the least owner.
-    pub(crate) part: u32,
-    /// How many lesser places have its coordinate.
-    pub(crate) rank: u32,
-}
+/// The least extent of a dimension whose places are kept by the runs of a period: those of a shorter one are found by one load.
+const LONG: u32 = 65_536;
 
 /// A dimension of an array.
 #[derive(Drop)]
 pub(crate) struct Column {
     extent: u32,
-    places: Vec<Place>,
+    places: Places,
     /// Of each node how far apart in its piece two elements lie between whose places the node owns no other: how many tuples of places it
     /// owns on the dimensions before.
     strides: Vec<u32>,
@@ -38,7 +36,7 @@ impl Model for Column {
 
     ghost Value = { ColumnView };
 
-    ghost view = { λ c. record { extent = c.extent; places = c.places.items; strides = c.strides.items } };
+    ghost view = { λ c. record { extent = c.extent; places = c.places; strides = c.strides.items } };
 }
 
 impl Column {
@@ -54,14 +52,14 @@ impl Column {
         requires { number < length self.now.places }
         ensures { result ≡ slice_index_or self.now.places number no_place }
     {
-        self.places[number as usize]
+        self.places.at(number as usize)
     }
 
     /// The places.
-    pub(crate) fn places(&self) -> &[Place]
+    pub(crate) fn places(&self) -> &Places
         ensures { result.now ≡ self.now.places }
     {
-        self.places.as_slice()
+        &self.places
     }
 
     /// The stride of a node.
@@ -138,7 +136,7 @@ fn next_strides(
 /// The places of a dimension, and how many have each coordinate.
 #[derive(Drop)]
 struct Dealt {
-    places: Vec<Place>,
+    places: Places,
     counts: Vec<u32>,
 }
 
@@ -155,20 +153,63 @@ fn deal(
     requires lower { unsigned_abs lower ≤ 2 ^ 41 }
     requires extent { extent ≤ 2 ^ 20 }
     requires inside { (place : ℕ) → place < extent → InAxis axis.now (lower +ℤ pos place) }
-    ensures places { IfOk result (λ d. d.places.items ≡ map (place_on axis.now weight lower) (range_with_len 0 extent)) }
+    ensures places { IfOk result (λ d. d.places ≡ map (place_on axis.now weight lower) (range_with_len 0 extent)) }
     ensures counts { IfOk result (λ d. d.counts.items ≡ map (count_on axis.now lower extent) (range_with_len 0 (procs_on axis.now))) }
 {
     let mut counts = zeros(alloc, procs_on(axis))?;
-    let mut places = Vec::new(alloc);
+    let mut places = new_places(alloc, axis, extent);
     for place in 0..extent {
         let coordinate = coordinate_on(axis, subscript(lower, place));
         let rank = next_number(&mut counts, coordinate);
-        places.push(Place {
-            part: coordinate * weight,
-            rank,
-        })?;
+        places.push(
+            alloc,
+            Place {
+                part: coordinate * weight,
+                rank,
+            },
+        )?;
     }
     Ok(Dealt { places, counts })
+}
+
+/// No places yet, of a dimension of so many.
+fn new_places(alloc: Global, axis: &Option<Axis>, extent: u32) -> Places
+    requires line { HasLine axis.now }
+    ensures { result ≡ [] }
+{
+    if extent < LONG {
+        Places::listed(alloc)
+    } else {
+        Places::repeated(alloc, period_on(axis, extent))
+    }
+}
+
+/// After how many places a dimension comes to the same position of a cycle, which under CYCLIC(k) is a block of each processor; so many at most,
+/// as where it never does.
+fn period_on(axis: &Option<Axis>, most: u32) -> u32
+    requires line { HasLine axis.now }
+    requires some { 1 ≤ most }
+    ensures { 1 ≤ result }
+{
+    let Some(axis) = axis else {
+        return most;
+    };
+    let Form::Cyclic(k) = &axis.line.form else {
+        return most;
+    };
+    period_by(axis.factor, *k, axis.line.procs).min(most as u128) as u32
+}
+
+/// The least number whose product with a factor is a multiple of a cycle: of blocks of so many positions, one a processor.
+fn period_by(factor: i64, block: u64, procs: u32) -> u128
+    requires block { 1 ≤ block }
+    requires most { block ≤ MAX_CYCLIC }
+    requires procs { 1 ≤ procs }
+    requires few { procs ≤ MAX_NODES }
+    ensures { 1 ≤ result }
+{
+    let cycle = block as u128 * procs as u128;
+    inverse_of(residue_of(factor as i128, cycle), cycle).period
 }
 
 /// The number of the next place with this coordinate: how many there were before it. One more is counted.

@@ -5,7 +5,8 @@ ghost use Rattle.hpf_base.specs.ElementOrder.{product};
 ghost use Rattle.owner_tables.specs.Columns.{AreRanked, IsFilled, extents_along};
 ghost use Rattle.owner_tables.specs.Stretches.{AreEven, IsStretch};
 
-use crate::columns::{Column, Place, split_by};
+use crate::columns::{Column, split_by};
+use periodic_runs::{Place, Places};
 
 /// How many elements at the front of a line the node owns, and where they lie in its piece.
 #[derive(Clone, Copy)]
@@ -131,14 +132,15 @@ struct EvenPlaces {
 
 /// How many of the places after a first one add the same as it, with ranks at equal distances: a front of `others`, each `step` places after the
 /// one before. Where all lie in one block, it asks the last alone.
-fn even_places(places: &[Place], first: usize, step: u32, others: usize) -> EvenPlaces
+fn even_places(places: &Places, first: usize, step: u32, others: usize) -> EvenPlaces
     requires inside { first + others * step < length places.now }
+    requires few { length places.now < 2 ^ 32 }
     requires ranks { AreRanked places.now }
     ensures few { result.others ≤ others }
     ensures even { AreEven places.now first step result.others result.apart }
 {
     let distance = others * step as usize;
-    if is_one_block(places[first], places[first + distance], distance) {
+    if is_one_block(places.at(first), places.at(first + distance), distance) {
         EvenPlaces {
             others,
             apart: step,
@@ -157,18 +159,19 @@ fn is_one_block(one: Place, other: Place, distance: usize) -> bool
 }
 
 /// The same place by place, as far as it goes.
-fn walk(places: &[Place], first: usize, step: usize, others: usize) -> EvenPlaces
-    requires { first + others * step < length places.now }
+fn walk(places: &Places, first: usize, step: usize, others: usize) -> EvenPlaces
+    requires inside { first + others * step < length places.now }
+    requires few { length places.now < 2 ^ 32 }
     ensures few { result.others ≤ others }
     ensures even { AreEven places.now first step result.others result.apart }
 {
-    if others == 0 || places[first + step].rank < places[first].rank {
+    if others == 0 || places.at(first + step).rank < places.at(first).rank {
         return EvenPlaces {
             others: 0,
             apart: 0,
         };
     }
-    let apart = places[first + step].rank - places[first].rank;
+    let apart = places.at(first + step).rank - places.at(first).rank;
     EvenPlaces {
         others: walk_by(places, first, step, others, apart),
         apart,
@@ -176,18 +179,19 @@ fn walk(places: &[Place], first: usize, step: usize, others: usize) -> EvenPlace
 }
 
 /// The same where the ranks lie so far apart.
-fn walk_by(places: &[Place], first: usize, step: usize, others: usize, apart: u32) -> usize
-    requires { first + others * step < length places.now }
+fn walk_by(places: &Places, first: usize, step: usize, others: usize, apart: u32) -> usize
+    requires inside { first + others * step < length places.now }
+    requires few { length places.now < 2 ^ 32 }
     ensures few { result ≤ others }
     ensures even { AreEven places.now first step result apart }
 {
-    let part = places[first].part;
+    let part = places.at(first).part;
     let mut at = first;
-    let mut rank = places[first].rank as usize;
+    let mut rank = places.at(first).rank as usize;
     for done in 0..others {
         at += step;
         rank += apart as usize;
-        if !adds(places[at], part, rank) {
+        if !adds(places.at(at), part, rank) {
             return done;
         }
     }

@@ -5,7 +5,7 @@ use Rattle.std.specs.Int.{w64}
 use Rattle.std.specs.List.{range_with_len}
 use Rattle.hpf_base.proofs.Ranges.{map-range_push}
 use Rattle.local_address.specs.Runs.{coordinate_on, procs_on}
-use Rattle.owner_tables.specs.declared.columns.Place.{Place}
+use Rattle.periodic_runs.specs.declared.runs.Place.{Place}
 use Rattle.owner_tables.specs.Columns.{count_on, place_on}
 use Rattle.owner_tables.proofs.Counting.{count-few, count-here, counts-next}
 use Rattle.owner_tables.proofs.Ranges.{replicate-range}
@@ -13,7 +13,7 @@ use Rattle.owner_tables.proofs.columns.deal.Goals as goal
 
 pub loop-place-init : goal.loop-place-init
 loop-place-init c =
-    (c.new-places.ensures.items, c.in_ok-counts.ensures ∙ replicate-range 0 0 c.procs_on.result ∙ ap (λ n. map (λ k. 0) (range_with_len 0 n)) c.procs_on.ensures)
+    (c.new_places-places.ensures, c.in_ok-counts.ensures ∙ replicate-range 0 0 c.procs_on.result ∙ ap (λ n. map (λ k. 0) (range_with_len 0 n)) c.procs_on.ensures)
 
 pub next_number-rank-requires-clause-within : goal.next_number-rank-requires-clause-within
 next_number-rank-requires-clause-within c =
@@ -52,8 +52,13 @@ loop-place-preserved c =
     let rank : c.next_number-rank.result ≡ count_on axis lower place (coordinate place) =
     c.next_number-rank.ensures.number ∙ ap (λ n. get_or counts n 0) is ∙ count-here coordinate (procs_on axis) place within counts c.loop-place.invariant.1 in
     let made : Place = record { part = c.coordinate_on-coordinate.result * c.args.weight; rank = c.next_number-rank.result } in (
-      map-range_push (place_on axis c.args.weight lower) c.loop-place.places.items c.push.new.self.items made place c.in_ok-push.ensures.items
+      map-range_push (place_on axis c.args.weight lower) c.loop-place.places c.push.new.self made place c.in_ok-push.ensures
           c.loop-place.invariant.0 (λ i. record { part = is i * c.args.weight; rank = rank i }),
       c.next_number-rank.ensures.more ∙ ap (λ n. set counts n (get_or counts n 0 + 1)) is
           ∙ counts-next coordinate (procs_on axis) place within counts c.loop-place.invariant.1,
     )
+
+pub push-requires : goal.push-requires
+push-requires c =
+    let made = place_on c.args.axis.now c.args.weight (to_z w64 (of_z w64 c.args.lower)) in
+    omega (arith, ap length c.loop-place.invariant.0, length-map-range_with_len made 0 c.loop-place.place, c.loop-place-test.true, c.requires.extent)

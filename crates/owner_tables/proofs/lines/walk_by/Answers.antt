@@ -14,6 +14,7 @@ loop-done-preserved c =
       rank = rank;
       small = c.if-not-adds.ensures.small refl;
       even = even-more places c.args.first c.args.step done c.args.apart c.loop-done.invariant.even
-          (ap (λ n. (place_of places n).part) (sym at) ∙ c.if-not-adds.ensures.part refl)
-          (ap (λ n. (place_of places n).rank) (sym at) ∙ c.if-not-adds.ensures.rank refl ∙ rank);
+          (ap (λ n. (place_of places n).part) (sym at) ∙ sym (ap (λ p. p.part) c.at.ensures) ∙ c.if-not-adds.ensures.part refl
+          ∙ ap (λ p. p.part) c.at-part.ensures)
+          (ap (λ n. (place_of places n).rank) (sym at) ∙ sym (ap (λ p. p.rank) c.at.ensures) ∙ c.if-not-adds.ensures.rank refl ∙ rank);
     }

@@ -1,0 +1,2 @@
+mod PeriodLaws
+mod RunLaws
