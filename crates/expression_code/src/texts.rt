@@ -9,8 +9,7 @@ use node_code::Instruction;
 pub fn joined(code: &mut Vec<Instruction>, more: Vec<Instruction>) -> Result<(), OutOfMemory>
     ensures { OnOk result (code.new.items ≡ code.old.items ++ more.items) }
 {
-    for instruction in more {
-        code.push(instruction)?;
-    }
+    let mut more = more;
+    code.append(&mut more)?;
     Ok(())
 }

@@ -12,6 +12,7 @@ ghost use Rattle.program_code.specs.StatementCode.{forall_assignments_code, fora
 
 use crate::forall_header::{add_header, header_subs};
 use crate::forall_subscripts::all_subscripts;
+use crate::sequences::push;
 use expression_code::{all_index_flats, index_form, index_subs};
 use hpf_base::OutOfMemory;
 use node_code::{Assignment, Evaluation, Instruction, When};
@@ -52,12 +53,14 @@ fn push_limits(
     ensures { OnOk result (instructions code.new.items ≡ instructions code.old.items
         ++ ForallLimits line (subs_of b (triplets (map control controls.now))) (map index_flat (all_subscripts (option_map term mask.now) (map element_assignment body.now))) ∷ []) }
 {
-    code.push(Instruction::ForallLimits {
-        line,
-        over: header_subs(alloc, b, controls)?,
-        subscripts: all_subscripts(alloc, mask, body)?,
-    })?;
-    Ok(())
+    push(
+        code,
+        Instruction::ForallLimits {
+            line,
+            over: header_subs(alloc, b, controls)?,
+            subscripts: all_subscripts(alloc, mask, body)?,
+        },
+    )
 }
 
 /// Puts a test of each assignment, that it is one to one.
@@ -72,11 +75,14 @@ fn add_tests(
         ≡ instructions code.old.items ++ one_to_one_code (subs_of b (triplets (map control controls.now))) (map element_assignment body.now)) }
 {
     for x in body {
-        code.push(Instruction::OneToOne {
-            line: x.line,
-            over: header_subs(alloc, b, controls)?,
-            left: all_index_flats(alloc, &x.subscripts)?,
-        })?;
+        push(
+            code,
+            Instruction::OneToOne {
+                line: x.line,
+                over: header_subs(alloc, b, controls)?,
+                left: all_index_flats(alloc, &x.subscripts)?,
+            },
+        )?;
     }
     Ok(())
 }
@@ -97,16 +103,21 @@ fn add_mask(
     match mask {
         None => Ok(()),
         Some(t) => {
-            code.push(Instruction::MakeCopy {
-                copy,
-                evaluation: mask_evaluation(alloc, line, b, controls, t)?,
-            })?;
-            code.push(Instruction::ParForallCopy {
-                copy,
-                evaluation: mask_evaluation(alloc, line, b, controls, t)?,
-            })?;
-            code.push(Instruction::Verdict)?;
-            Ok(())
+            push(
+                code,
+                Instruction::MakeCopy {
+                    copy,
+                    evaluation: mask_evaluation(alloc, line, b, controls, t)?,
+                },
+            )?;
+            push(
+                code,
+                Instruction::ParForallCopy {
+                    copy,
+                    evaluation: mask_evaluation(alloc, line, b, controls, t)?,
+                },
+            )?;
+            push(code, Instruction::Verdict)
         }
     }
 }
@@ -151,8 +162,11 @@ fn add_assignments(
         ++ forall_assignments_code (subs_of b (triplets (map control controls.now))) (option_map when branch) (map element_assignment body.now)) }
 {
     for x in body {
-        code.push(Instruction::ParForall(forall_assignment(alloc, b, controls, branch, x)?))?;
-        code.push(Instruction::Verdict)?;
+        push(
+            code,
+            Instruction::ParForall(forall_assignment(alloc, b, controls, branch, x)?),
+        )?;
+        push(code, Instruction::Verdict)?;
     }
     Ok(())
 }

@@ -21,7 +21,7 @@ use crate::nest_finals::{add_finals, add_makes, finals};
 use crate::nest_loops::{add_bounds, innermost, loops_slots};
 use crate::nest_names::{NestNames, loop_indices, nest_names};
 use crate::nest_scalars::scalars;
-use crate::sequences::{place_after, size};
+use crate::sequences::{place_after, push, size};
 use expression_code::{joined, plus};
 use hpf_base::OutOfMemory;
 use node_code::{Flat, Instruction};
@@ -218,8 +218,7 @@ fn add_body(
 {
     let at = plus(pc, size(code))?;
     joined(code, body_code(alloc, w, inside, None, 0, b, at)?)?;
-    code.push(Instruction::Verdict)?;
-    Ok(())
+    push(code, Instruction::Verdict)
 }
 
 /// Puts the trips of loops: the run goes on at a target where a loop makes no trip. Each has four slots, those of the first one from `v` on.
@@ -234,7 +233,7 @@ fn add_trips(
 {
     let mut at = v;
     for _index in indices {
-        code.push(trips(line, at, target)?)?;
+        push(code, trips(line, at, target)?)?;
         at = plus(at, 4)?;
     }
     Ok(())
@@ -287,10 +286,9 @@ fn add_index_code(
 ) -> Result<(), OutOfMemory>
     ensures { OnOk result (instructions code.new.items ≡ instructions code.old.items ++ indices_code line v target (with_index k ∷ [])) }
 {
-    code.push(set(line, k, Flat::Slot(v)))?;
-    code.push(trips(line, v, target)?)?;
-    code.push(set(line, k, value_after(alloc, v)?))?;
-    Ok(())
+    push(code, set(line, k, Flat::Slot(v)))?;
+    push(code, trips(line, v, target)?)?;
+    push(code, set(line, k, value_after(alloc, v)?))
 }
 
 /// The value of an index after a loop that makes a trip, by the slots of the loop.

@@ -10,6 +10,7 @@ ghost use Rattle.node_codegen.specs.NestNames.{over_by};
 use crate::nest_names::NestNames;
 use crate::nest_scalars::{is_in, operator_in};
 use crate::nest_statements::making;
+use crate::sequences::push;
 use expression_code::plus;
 use hpf_base::OutOfMemory;
 use node_code::{Flat, Instruction};
@@ -18,7 +19,7 @@ use resolved_program::Statement;
 use std::alloc::Global;
 
 /// How a scalar that a nest assigns gets its value after it.
-#[derive(Clone, Copy, PartialEq, Eq)]
+#[derive(Clone, Copy)]
 pub(crate) enum Final {
     /// Its copies in a row are folded into its slot.
     Folds {
@@ -109,13 +110,11 @@ fn add_final_makes(
 {
     match f {
         Final::Folds { join, row, .. } => {
-            code.push(making(alloc, w, *row, Flat::Int(join.unit()))?)?;
-            Ok(())
+            push(code, making(alloc, w, *row, Flat::Int(join.unit()))?)
         }
         Final::Lasts { row, mark, slot } => {
-            code.push(making(alloc, w, *row, Flat::Slot(*slot))?)?;
-            code.push(making(alloc, w, *mark, Flat::Int(0))?)?;
-            Ok(())
+            push(code, making(alloc, w, *row, Flat::Slot(*slot))?)?;
+            push(code, making(alloc, w, *mark, Flat::Int(0))?)
         }
     }
 }
@@ -131,7 +130,7 @@ fn add_conditions_makes(
 {
     for k in 0..conditions {
         let copy = plus(w.stored, k)?;
-        code.push(making(alloc, w, copy, Flat::Int(0))?)?;
+        push(code, making(alloc, w, copy, Flat::Int(0))?)?;
     }
     Ok(())
 }
@@ -145,7 +144,7 @@ pub(crate) fn add_finals(
     ensures { OnOk result (instructions code.new.items ≡ instructions code.old.items ++ finals_instructions line (map final finals.now)) }
 {
     for f in finals {
-        code.push(final_instruction(f))?;
+        push(code, final_instruction(f))?;
     }
     Ok(())
 }
