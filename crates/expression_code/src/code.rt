@@ -10,7 +10,7 @@ ghost use Rattle.op_tables.specs.Operators.{can_divide};
 ghost use Rattle.resolved_program.specs.Resolved.{control, subscripts_of, term, terms_of};
 ghost use Rattle.expression_code.specs.Subscripts.{subscript_code};
 
-use crate::controls::{push_three, push_triplet, three_slots};
+use crate::controls::{push_three, three_slots};
 use crate::evaluations::own_evaluation;
 use crate::slots::{all_slots_of, parts_slots, slots_of, subscript_slots};
 use crate::sums::{can_divide, plus};
@@ -302,10 +302,13 @@ fn add_subscript(
         SectionSubscript::Subscript(t) => add_code(alloc, code, line, b, t),
         SectionSubscript::Triplet(first, last, step) => {
             let slots = three_slots(b, first, last, step)?;
+            let slot = plus(slots.slot, 2)?;
             add_code(alloc, code, line, b, first)?;
             add_code(alloc, code, line, slots.last_from, last)?;
             add_code(alloc, code, line, slots.step_from, step)?;
-            push_triplet(alloc, code, line, b, slots, first, last, step)
+            push_three(alloc, code, line, b, slots, first, last, step)?;
+            code.push(Instruction::TestStride { line, slot })?;
+            Ok(())
         }
     }
 }

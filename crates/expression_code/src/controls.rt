@@ -2,7 +2,7 @@
 
 ghost use Rattle.std.specs.Prelude.{◌≡◌, ◌+◌, IfOk, OnOk, [], ◌∷◌, ◌++◌};
 ghost use Rattle.program_code.specs.ExpressionCode.{control_slots, flat_of, slots_of, triplet};
-ghost use Rattle.node_code.specs.Instructions.{Set, TestStride};
+ghost use Rattle.node_code.specs.Instructions.{Set};
 ghost use Rattle.node_code.specs.Texts.{instructions};
 ghost use Rattle.resolved_program.specs.Resolved.{term};
 
@@ -15,7 +15,7 @@ use resolved_program::Term;
 use std::alloc::Global;
 
 /// The slots of the three values, whose code takes those from some `b` on.
-#[derive(Clone, Copy)]
+#[derive(Drop)]
 pub(crate) struct ThreeSlots {
     /// The first slot of the code of the last value, and of that of the step.
     pub last_from: usize,
@@ -66,29 +66,6 @@ pub(crate) fn push_three(
     push_value(alloc, code, line, slots.slot, b, first)?;
     push_value(alloc, code, line, second, slots.last_from, last)?;
     push_value(alloc, code, line, third, slots.step_from, step)
-}
-
-/// Puts those of a triplet, and then the test of its stride.
-pub(crate) fn push_triplet(
-    alloc: Global,
-    code: &mut Vec<Instruction>,
-    line: u32,
-    b: usize,
-    slots: ThreeSlots,
-    first: &Term,
-    last: &Term,
-    step: &Term,
-) -> Result<(), OutOfMemory>
-    ensures { OnOk result (instructions code.new.items ≡ instructions code.old.items
-        ++ Set line slots.slot (flat_of b (term first.now))
-        ∷ Set line (slots.slot + 1) (flat_of slots.last_from (term last.now))
-        ∷ Set line (slots.slot + 2) (flat_of slots.step_from (term step.now))
-        ∷ TestStride line (slots.slot + 2) ∷ []) }
-{
-    let slot = plus(slots.slot, 2)?;
-    push_three(alloc, code, line, b, slots, first, last, step)?;
-    code.push(Instruction::TestStride { line, slot })?;
-    Ok(())
 }
 
 /// Puts the value of an expression into a slot, after its code.

@@ -9,7 +9,8 @@ use node_code::Instruction;
 pub fn joined(code: &mut Vec<Instruction>, more: Vec<Instruction>) -> Result<(), OutOfMemory>
     ensures { OnOk result (code.new.items ≡ code.old.items ++ more.items) }
 {
-    let mut more = more;
-    code.append(&mut more)?;
+    for instruction in more {
+        code.push(instruction)?;
+    }
     Ok(())
 }

@@ -27,12 +27,11 @@ put_after made new part whole before after more so_far next =
     so_far ∙ ap (λ l. instructions made ++ l) next ∙ sym (append_assoc (instructions made) (instructions part) after)
     ∙ ap (λ l. l ++ after) (sym (ap instructions more ∙ map-append instruction made part))
 
--- an arm, by the code of its body
-pub arm_is : (w : NestNames) (test : Option (Lined Term)) (body : PlainBody) (guard : Option ℕ) (earlier : List ℕ) (k b pc copy : ℕ) (c v : List Instruction) →
-    copy ≡ w.stored + k → c ≡ body_by w body (Some k) (k + 1) b (pc + 2) →
-    v ≡ MakeCopies copy (over_by w) (Int (pos 0)) ∷ test_instruction w.line (over_by w) (text_by w) (test_by w) w.stored (tested_asked guard earlier) test copy ∷ c →
-    IsArmCode w test body guard earlier k b pc v
-arm_is w test body guard earlier k b pc copy c v row inside whole = λ others.
+-- an arm, by its condition's instruction and the code of its body
+pub arm_is : (w : NestNames) (test : Option (Lined Term)) (body : PlainBody) (guard : Option ℕ) (earlier : List ℕ) (k b pc copy : ℕ) (t : Instruction) (c v : List Instruction) →
+    copy ≡ w.stored + k → t ≡ test_instruction w.line (over_by w) (text_by w) (test_by w) w.stored (tested_asked guard earlier) test copy →
+    c ≡ body_by w body (Some k) (k + 1) b (pc + 2) → v ≡ MakeCopies copy (over_by w) (Int (pos 0)) ∷ t ∷ c → IsArmCode w test body guard earlier k b pc v
+arm_is w test body guard earlier k b pc copy t c v row tests inside whole = λ others.
     let rest = arms_by w others guard (k ∷ earlier) (k + 1 + count_nest body) b in
     let own = body_by w body (Some k) (k + 1) b (pc + 2) in
     let long : length v ≡ suc (suc (length own)) = ap length whole ∙ ap (λ l. suc (suc (length l))) inside in
@@ -40,7 +39,7 @@ arm_is w test body guard earlier k b pc copy c v row inside whole = λ others.
     let made : v ≡ MakeCopies (w.stored + k) (over_by w) (Int (pos 0))
     ∷ test_instruction w.line (over_by w) (text_by w) (test_by w) w.stored (tested_asked guard earlier) test (w.stored + k) ∷ own =
     whole ∙ (λ i. MakeCopies (row i) (over_by w) (Int (pos 0))
-    ∷ test_instruction w.line (over_by w) (text_by w) (test_by w) w.stored (tested_asked guard earlier) test (row i) ∷ inside i) in
+    ∷ (tests ∙ ap (test_instruction w.line (over_by w) (text_by w) (test_by w) w.stored (tested_asked guard earlier) test) row) i ∷ inside i) in
     ap (λ p. MakeCopies (w.stored + k) (over_by w) (Int (pos 0))
     ∷ test_instruction w.line (over_by w) (text_by w) (test_by w) w.stored (tested_asked guard earlier) test (w.stored + k) ∷ (own ++ rest p)) place
     ∙ ap (λ l. l ++ rest (pc + length v)) (sym made)

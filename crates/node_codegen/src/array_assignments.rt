@@ -8,7 +8,6 @@ ghost use Rattle.resolved_program.specs.Resolved.{subscripts_of, term};
 ghost use Rattle.program_code.specs.ExpressionCode.{first_subs, form_of, or_no_sub, parts_code, subscripts_code, subscripts_slots};
 ghost use Rattle.program_code.specs.StatementCode.{assignment, assignment_code};
 
-use crate::sequences::push;
 use expression_code::{
     form_of, joined, own_space, parts_code, plus, subs_of, subscripts_code, subscripts_slots,
 };
@@ -49,15 +48,10 @@ fn push_stores(
         ∷ Par (assignment line b array (subscripts_of subscripts.now) (term right.now) None)
         ∷ Verdict ∷ []) }
 {
-    push(
-        code,
-        Instruction::Limits(assignment(alloc, line, b, array, subscripts, right)?),
-    )?;
-    push(
-        code,
-        Instruction::Par(assignment(alloc, line, b, array, subscripts, right)?),
-    )?;
-    push(code, Instruction::Verdict)
+    code.push(Instruction::Limits(assignment(alloc, line, b, array, subscripts, right)?))?;
+    code.push(Instruction::Par(assignment(alloc, line, b, array, subscripts, right)?))?;
+    code.push(Instruction::Verdict)?;
+    Ok(())
 }
 
 /// Puts the code of an assignment of a WHERE, whose mask has its slots from `free` on.
@@ -75,33 +69,10 @@ pub(crate) fn add_masked_assignment(
 {
     joined(code, subscripts_code(alloc, x.line, b, &x.subscripts)?)?;
     joined(code, right_code(alloc, x.line, b, &x.subscripts, &x.right)?)?;
-    push_masked_stores(alloc, code, b, x, free, mask, branch)
-}
-
-/// Puts its stores, once its limits are kept.
-fn push_masked_stores(
-    alloc: Global,
-    code: &mut Vec<Instruction>,
-    b: usize,
-    x: &SectionAssignment,
-    free: usize,
-    mask: &Term,
-    branch: When,
-) -> Result<(), OutOfMemory>
-    ensures { OnOk result (instructions code.new.items ≡ instructions code.old.items
-        ++ Limits (assignment x.now.line b x.now.array (subscripts_of x.now.subscripts.items) (term x.now.right) (Some (or_no_sub (first_subs (form_of free (term mask.now))), when branch)))
-        ∷ Par (assignment x.now.line b x.now.array (subscripts_of x.now.subscripts.items) (term x.now.right) (Some (or_no_sub (first_subs (form_of free (term mask.now))), when branch)))
-        ∷ Verdict ∷ []) }
-{
-    push(
-        code,
-        Instruction::Limits(masked_assignment(alloc, b, x, free, mask, branch)?),
-    )?;
-    push(
-        code,
-        Instruction::Par(masked_assignment(alloc, b, x, free, mask, branch)?),
-    )?;
-    push(code, Instruction::Verdict)
+    code.push(Instruction::Limits(masked_assignment(alloc, b, x, free, mask, branch)?))?;
+    code.push(Instruction::Par(masked_assignment(alloc, b, x, free, mask, branch)?))?;
+    code.push(Instruction::Verdict)?;
+    Ok(())
 }
 
 /// The code of a right side, whose slots stand after those of the left side.

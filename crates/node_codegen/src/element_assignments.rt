@@ -6,7 +6,7 @@ ghost use Rattle.node_code.specs.Texts.{instructions};
 ghost use Rattle.resolved_program.specs.Resolved.{term, terms_of};
 ghost use Rattle.program_code.specs.ExpressionCode.{all_slots_of, code_of, codes_of, flat_of, flats_of};
 
-use crate::sequences::{push, with_last};
+use crate::sequences::with_last;
 use expression_code::{all_slots_of, code_of, codes_of, flat_of, flats_of, joined, plus};
 use hpf_base::OutOfMemory;
 use node_code::Instruction;
@@ -67,22 +67,17 @@ fn add_store(
         ++ Store line array (flats_of b (terms_of subscripts.now)) (flat_of (b + all_slots_of (terms_of subscripts.now)) (term right.now)) ∷ [])) }
 {
     let b1 = plus(b, all_slots_of(subscripts)?)?;
-    push(
-        code,
-        Instruction::TestBounds {
-            line,
-            array,
-            subscripts: flats_of(alloc, b, subscripts)?,
-        },
-    )?;
+    code.push(Instruction::TestBounds {
+        line,
+        array,
+        subscripts: flats_of(alloc, b, subscripts)?,
+    })?;
     joined(code, code_of(alloc, line, b1, right)?)?;
-    push(
-        code,
-        Instruction::Store {
-            line,
-            array,
-            subscripts: flats_of(alloc, b, subscripts)?,
-            value: flat_of(alloc, b1, right)?,
-        },
-    )
+    code.push(Instruction::Store {
+        line,
+        array,
+        subscripts: flats_of(alloc, b, subscripts)?,
+        value: flat_of(alloc, b1, right)?,
+    })?;
+    Ok(())
 }

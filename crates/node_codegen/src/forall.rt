@@ -12,7 +12,6 @@ ghost use Rattle.program_code.specs.StatementCode.{forall_assignments_code, fora
 
 use crate::forall_header::{add_header, header_subs};
 use crate::forall_subscripts::all_subscripts;
-use crate::sequences::push;
 use expression_code::{all_index_flats, index_form, index_subs};
 use hpf_base::OutOfMemory;
 use node_code::{Assignment, Evaluation, Instruction, When};
@@ -53,14 +52,12 @@ fn push_limits(
     ensures { OnOk result (instructions code.new.items ≡ instructions code.old.items
         ++ ForallLimits line (subs_of b (triplets (map control controls.now))) (map index_flat (all_subscripts (option_map term mask.now) (map element_assignment body.now))) ∷ []) }
 {
-    push(
-        code,
-        Instruction::ForallLimits {
-            line,
-            over: header_subs(alloc, b, controls)?,
-            subscripts: all_subscripts(alloc, mask, body)?,
-        },
-    )
+    code.push(Instruction::ForallLimits {
+        line,
+        over: header_subs(alloc, b, controls)?,
+        subscripts: all_subscripts(alloc, mask, body)?,
+    })?;
+    Ok(())
 }
 
 /// Puts a test of each assignment, that it is one to one.
@@ -75,14 +72,11 @@ fn add_tests(
         ≡ instructions code.old.items ++ one_to_one_code (subs_of b (triplets (map control controls.now))) (map element_assignment body.now)) }
 {
     for x in body {
-        push(
-            code,
-            Instruction::OneToOne {
-                line: x.line,
-                over: header_subs(alloc, b, controls)?,
-                left: all_index_flats(alloc, &x.subscripts)?,
-            },
-        )?;
+        code.push(Instruction::OneToOne {
+            line: x.line,
+            over: header_subs(alloc, b, controls)?,
+            left: all_index_flats(alloc, &x.subscripts)?,
+        })?;
     }
     Ok(())
 }
@@ -103,21 +97,16 @@ fn add_mask(
     match mask {
         None => Ok(()),
         Some(t) => {
-            push(
-                code,
-                Instruction::MakeCopy {
-                    copy,
-                    evaluation: mask_evaluation(alloc, line, b, controls, t)?,
-                },
-            )?;
-            push(
-                code,
-                Instruction::ParForallCopy {
-                    copy,
-                    evaluation: mask_evaluation(alloc, line, b, controls, t)?,
-                },
-            )?;
-            push(code, Instruction::Verdict)
+            code.push(Instruction::MakeCopy {
+                copy,
+                evaluation: mask_evaluation(alloc, line, b, controls, t)?,
+            })?;
+            code.push(Instruction::ParForallCopy {
+                copy,
+                evaluation: mask_evaluation(alloc, line, b, controls, t)?,
+            })?;
+            code.push(Instruction::Verdict)?;
+            Ok(())
         }
     }
 }
@@ -162,11 +151,8 @@ fn add_assignments(
         ++ forall_assignments_code (subs_of b (triplets (map control controls.now))) (option_map when branch) (map element_assignment body.now)) }
 {
     for x in body {
-        push(
-            code,
-            Instruction::ParForall(forall_assignment(alloc, b, controls, branch, x)?),
-        )?;
-        push(code, Instruction::Verdict)?;
+        code.push(Instruction::ParForall(forall_assignment(alloc, b, controls, branch, x)?))?;
+        code.push(Instruction::Verdict)?;
     }
     Ok(())
 }

@@ -7,7 +7,6 @@ ghost use Rattle.resolved_program.specs.Resolved.{control};
 ghost use Rattle.program_code.specs.ExpressionCode.{control_code, control_slots, subs_of, subscripts_code, subscripts_slots};
 ghost use Rattle.program_code.specs.StatementCode.{triplets};
 
-use crate::sequences::push;
 use expression_code::{control_code, control_slots, joined, plus};
 use hpf_base::OutOfMemory;
 use node_code::{Instruction, Sub};
@@ -74,5 +73,6 @@ fn add_index(
 {
     let slot = plus(plus(b, control_slots(c)?)?, 2)?;
     joined(code, control_code(alloc, line, b, c)?)?;
-    push(code, Instruction::TestStride { line, slot })
+    code.push(Instruction::TestStride { line, slot })?;
+    Ok(())
 }

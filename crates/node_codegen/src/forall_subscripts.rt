@@ -99,7 +99,15 @@ fn add_elements(
 ) -> Result<(), OutOfMemory>
     ensures { OnOk result (map flat found.new.items ≡ map flat found.old.items ++ map index_flat (list_of (terms_of subscripts.now))) }
 {
-    let mut more = all_index_flats(alloc, subscripts)?;
-    found.append(&mut more)?;
+    put_all(found, all_index_flats(alloc, subscripts)?)
+}
+
+/// Puts subscripts after others.
+fn put_all(subscripts: &mut Vec<Flat>, more: Vec<Flat>) -> Result<(), OutOfMemory>
+    ensures { OnOk result (subscripts.new.items ≡ subscripts.old.items ++ more.items) }
+{
+    for f in more {
+        subscripts.push(f)?;
+    }
     Ok(())
 }

@@ -7,7 +7,7 @@ ghost use Rattle.resolved_program.specs.Resolved.{term};
 ghost use Rattle.program_code.specs.ExpressionCode.{code_of, flat_of, slots_of};
 ghost use Rattle.node_codegen.specs.Arms.{arms_before, codes, jumping_to};
 
-use crate::sequences::{place_past, push, size, with_last};
+use crate::sequences::{place_past, size, with_last};
 use expression_code::{code_of, flat_of, joined, plus, slots_of};
 use hpf_base::OutOfMemory;
 use node_code::Instruction;
@@ -54,13 +54,10 @@ pub(crate) fn add_arm(
         ≡ instructions code.old.items ++ JumpIfZero (pc + length code.old.items + 1 + length body.items + 1) slot ∷ instructions body.items) }
 {
     let after = place_past(place_past(pc, code)?, &body)?;
-    push(
-        code,
-        Instruction::JumpIfZero {
-            target: after,
-            slot,
-        },
-    )?;
+    code.push(Instruction::JumpIfZero {
+        target: after,
+        slot,
+    })?;
     joined(code, body)
 }
 
@@ -96,7 +93,7 @@ fn arms_jumping(
 {
     for c in arms {
         joined(code, c)?;
-        push(code, Instruction::Jump { target: end })?;
+        code.push(Instruction::Jump { target: end })?;
     }
     Ok(())
 }

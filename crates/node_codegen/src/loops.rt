@@ -8,7 +8,7 @@ ghost use Rattle.node_code.specs.Texts as text;
 ghost use Rattle.node_code.specs.Texts.{instruction, instructions};
 ghost use Rattle.program_code.specs.StatementCode.{loop_code};
 
-use crate::sequences::{push, size};
+use crate::sequences::size;
 use expression_code::{joined, plus};
 use hpf_base::OutOfMemory;
 use node_code::{Flat, Instruction};
@@ -31,7 +31,8 @@ pub(crate) fn add_loop(
     add_head(alloc, code, line, pc, first, index, size(&body))?;
     joined(code, body)?;
     let again = plus(pc, 4)?;
-    push(code, Instruction::Jump { target: again })
+    code.push(Instruction::Jump { target: again })?;
+    Ok(())
 }
 
 /// Puts what stands before the body, which has so many instructions.
@@ -60,8 +61,8 @@ fn add_head(
     let inside = plus(pc, 8)?;
     let after = plus(plus(inside, count)?, 1)?;
     add_start(code, line, first, index, left, leave)?;
-    push(code, Instruction::Jump { target: inside })?;
-    push(code, Instruction::Jump { target: after })?;
+    code.push(Instruction::Jump { target: inside })?;
+    code.push(Instruction::Jump { target: after })?;
     add_next_turn(alloc, code, line, first, index, left, leave)
 }
 
@@ -78,18 +79,16 @@ fn add_start(
 {
     let last = plus(first, 1)?;
     let step = plus(first, 2)?;
-    push(code, set(line, index, Flat::Slot(first)))?;
-    push(
-        code,
-        Instruction::Trips {
-            line,
-            first,
-            last,
-            step,
-            left,
-            target: leave,
-        },
-    )
+    code.push(set(line, index, Flat::Slot(first)))?;
+    code.push(Instruction::Trips {
+        line,
+        first,
+        last,
+        step,
+        left,
+        target: leave,
+    })?;
+    Ok(())
 }
 
 /// The index gets its next value, and one iteration less is left; where none is, the loop is left.
@@ -110,30 +109,22 @@ pub(crate) fn add_next_turn(
         ∷ []) }
 {
     let step = plus(first, 2)?;
-    push(
-        code,
-        set(
-            line,
-            first,
-            of_two(alloc, Op::Add, Flat::Slot(first), Flat::Slot(step))?,
-        ),
-    )?;
-    push(code, set(line, index, Flat::Slot(first)))?;
-    push(
-        code,
-        Instruction::JumpIfZero {
-            target: leave,
-            slot: left,
-        },
-    )?;
-    push(
-        code,
-        set(
-            line,
-            left,
-            of_two(alloc, Op::Sub, Flat::Slot(left), Flat::Int(1))?,
-        ),
-    )
+    code.push(set(
+        line,
+        first,
+        of_two(alloc, Op::Add, Flat::Slot(first), Flat::Slot(step))?,
+    ))?;
+    code.push(set(line, index, Flat::Slot(first)))?;
+    code.push(Instruction::JumpIfZero {
+        target: leave,
+        slot: left,
+    })?;
+    code.push(set(
+        line,
+        left,
+        of_two(alloc, Op::Sub, Flat::Slot(left), Flat::Int(1))?,
+    ))?;
+    Ok(())
 }
 
 /// A slot gets a value.

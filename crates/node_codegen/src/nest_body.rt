@@ -3,13 +3,12 @@
 ghost use Rattle.std.specs.Prelude.{◌≡◌, ◌+◌, [], ◌∷◌, ◌++◌, Some, IfOk, OnOk, pos};
 ghost use Rattle.op_tables.specs.declared.op.Op.TheVariants as operator;
 ghost use Rattle.program_code.specs.NestCode.{PlainArms, bounds_code, bounds_in, plain, plain_arms, plain_else};
-ghost use Rattle.program_code.specs.NestInstructions.{count_nest, loop_instructions, setting_else, testing, whens_of};
-ghost use Rattle.nest_syntax.specs.Asked.{tested_asked};
+ghost use Rattle.program_code.specs.NestInstructions.{count_nest, loop_instructions};
 ghost use Rattle.node_code.specs.Flat.{AndFlat, Int, NoFlat, Operated, Slot};
-ghost use Rattle.node_code.specs.Instructions.{Jump, JumpIfZero, MakeCopies, ParNest, Set, Trips};
-ghost use Rattle.node_code.specs.Texts.{instructions};
-ghost use Rattle.resolved_program.specs.Resolved.{arms_of, block_of, loop_of, statement, term};
-ghost use Rattle.node_codegen.specs.NestNames.{arms_by, body_by, over_by, test_by};
+ghost use Rattle.node_code.specs.Instructions.{Jump, JumpIfZero, MakeCopies, Set, Trips};
+ghost use Rattle.node_code.specs.Texts.{instruction, instructions};
+ghost use Rattle.resolved_program.specs.Resolved.{arms_of, block_of, loop_of, statement};
+ghost use Rattle.node_codegen.specs.NestNames.{arms_by, body_by, over_by};
 ghost use Rattle.node_codegen.specs.NestTexts.{IsArmCode, IsTextCode, arm_body, arm_test};
 
 use crate::loops::{add_next_turn, set};
@@ -17,11 +16,11 @@ use crate::nest_counts::{block_conditions, is_bare, statement_conditions};
 use crate::nest_loops::add_loop_bounds;
 use crate::nest_names::NestNames;
 use crate::nest_statements::{element_text, making, scalar_text, setting_else, testing};
-use crate::sequences::{push, put_at, size, with_more};
+use crate::sequences::{put_at, size, with_more};
 use expression_code::{joined, plus};
 use hpf_base::OutOfMemory;
 use node_code::{Flat, Instruction};
-use resolved_program::{Action, Arm, Loop, Statement, Term};
+use resolved_program::{Action, Arm, Loop, Statement};
 use std::alloc::Global;
 
 /// The code of arms, and what an ELSE after them has to know.
@@ -166,9 +165,9 @@ fn arm_code(
     let copy = plus(w.stored, k)?;
     let inside = plus(pc, 2)?;
     let next = plus(k, 1)?;
-    let head = arm_head(alloc, w, a.line, guard, earlier, &a.condition, copy)?;
     let body = body_code(alloc, w, &a.body, Some(k), next, b, inside)?;
-    let code = with_more(head, body)?;
+    let test = testing(alloc, w, a.line, guard, earlier, &a.condition, copy)?;
+    let code = tested(alloc, w, copy, test, body)?;
     Ok(code)
 }
 
@@ -192,49 +191,24 @@ fn else_code(
     let copy = plus(w.stored, k)?;
     let inside = plus(pc, 2)?;
     let next = plus(k, 1)?;
-    let head = else_head(alloc, w, guard, earlier, copy)?;
     let body = body_code(alloc, w, other, Some(k), next, b, inside)?;
-    let code = with_more(head, body)?;
+    let test = setting_else(alloc, w, guard, earlier, copy)?;
+    let code = tested(alloc, w, copy, test, body)?;
     Ok(code)
 }
 
-/// What stands before the body of an arm: its condition, which no iteration has yet, is stored.
-fn arm_head(
+/// An arm: its condition, which no iteration has yet, is stored, and then its body stands under it.
+fn tested(
     alloc: Global,
     w: &NestNames,
-    line: u32,
-    guard: Option<usize>,
-    earlier: &[usize],
-    condition: &Term,
     copy: usize,
+    test: Instruction,
+    body: Vec<Instruction>,
 ) -> Result<Vec<Instruction>, OutOfMemory>
-    ensures { IfOk result (λ v. instructions v.items ≡ MakeCopies copy (over_by w.now) (Int (pos 0))
-        ∷ ParNest (testing (over_by w.now) (whens_of w.now.stored (tested_asked guard earlier.now)) (test_by w.now (record { line = line; text = term condition.now })) copy) ∷ []) }
+    ensures { IfOk result (λ v. instructions v.items ≡ MakeCopies copy (over_by w.now) (Int (pos 0)) ∷ instruction test ∷ instructions body.items) }
 {
-    let mut code = Vec::new(alloc);
-    push(&mut code, making(alloc, w, copy, Flat::Int(0))?)?;
-    push(
-        &mut code,
-        testing(alloc, w, line, guard, earlier, condition, copy)?,
-    )?;
-    Ok(code)
-}
-
-/// That of an ELSE.
-fn else_head(
-    alloc: Global,
-    w: &NestNames,
-    guard: Option<usize>,
-    earlier: &[usize],
-    copy: usize,
-) -> Result<Vec<Instruction>, OutOfMemory>
-    ensures { IfOk result (λ v. instructions v.items ≡ MakeCopies copy (over_by w.now) (Int (pos 0))
-        ∷ ParNest (setting_else (over_by w.now) (whens_of w.now.stored (tested_asked guard earlier.now)) copy) ∷ []) }
-{
-    let mut code = Vec::new(alloc);
-    push(&mut code, making(alloc, w, copy, Flat::Int(0))?)?;
-    push(&mut code, setting_else(alloc, w, guard, earlier, copy)?)?;
-    Ok(code)
+    let code = vec![in alloc; making(alloc, w, copy, Flat::Int(0))?, test]?;
+    with_more(code, body)
 }
 
 /// A number before others.
@@ -287,18 +261,15 @@ fn inner_head(
     let left = plus(b, 3)?;
     let mut code = Vec::new(alloc);
     add_loop_bounds(alloc, &mut code, line, b, l)?;
-    push(&mut code, set(line, l.index, Flat::Slot(b)))?;
-    push(
-        &mut code,
-        Instruction::Trips {
-            line,
-            first: b,
-            last,
-            step,
-            left,
-            target: after,
-        },
-    )?;
+    code.push(set(line, l.index, Flat::Slot(b)))?;
+    code.push(Instruction::Trips {
+        line,
+        first: b,
+        last,
+        step,
+        left,
+        target: after,
+    })?;
     Ok(code)
 }
 
@@ -323,5 +294,6 @@ fn add_inner_tail(
     let left = plus(b, 3)?;
     let inside = plus(pc, 5)?;
     add_next_turn(alloc, code, line, b, index, left, after)?;
-    push(code, Instruction::Jump { target: inside })
+    code.push(Instruction::Jump { target: inside })?;
+    Ok(())
 }

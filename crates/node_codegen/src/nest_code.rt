@@ -21,7 +21,7 @@ use crate::nest_finals::{add_finals, add_makes, finals};
 use crate::nest_loops::{add_bounds, innermost, loops_slots};
 use crate::nest_names::{NestNames, loop_indices, nest_names};
 use crate::nest_scalars::scalars;
-use crate::sequences::{place_after, push, size};
+use crate::sequences::{place_after, size};
 use expression_code::{joined, plus};
 use hpf_base::OutOfMemory;
 use node_code::{Flat, Instruction};
@@ -218,7 +218,8 @@ fn add_body(
 {
     let at = plus(pc, size(code))?;
     joined(code, body_code(alloc, w, inside, None, 0, b, at)?)?;
-    push(code, Instruction::Verdict)
+    code.push(Instruction::Verdict)?;
+    Ok(())
 }
 
 /// Puts the trips of loops: the run goes on at a target where a loop makes no trip. Each has four slots, those of the first one from `v` on.
@@ -233,7 +234,7 @@ fn add_trips(
 {
     let mut at = v;
     for _index in indices {
-        push(code, trips(line, at, target)?)?;
+        code.push(trips(line, at, target)?)?;
         at = plus(at, 4)?;
     }
     Ok(())
@@ -286,9 +287,10 @@ fn add_index_code(
 ) -> Result<(), OutOfMemory>
     ensures { OnOk result (instructions code.new.items ≡ instructions code.old.items ++ indices_code line v target (with_index k ∷ [])) }
 {
-    push(code, set(line, k, Flat::Slot(v)))?;
-    push(code, trips(line, v, target)?)?;
-    push(code, set(line, k, value_after(alloc, v)?))
+    code.push(set(line, k, Flat::Slot(v)))?;
+    code.push(trips(line, v, target)?)?;
+    code.push(set(line, k, value_after(alloc, v)?))?;
+    Ok(())
 }
 
 /// The value of an index after a loop that makes a trip, by the slots of the loop.

@@ -10,7 +10,6 @@ ghost use Rattle.node_codegen.specs.NestNames.{over_by};
 use crate::nest_names::NestNames;
 use crate::nest_scalars::{is_in, operator_in};
 use crate::nest_statements::making;
-use crate::sequences::push;
 use expression_code::plus;
 use hpf_base::OutOfMemory;
 use node_code::{Flat, Instruction};
@@ -19,7 +18,7 @@ use resolved_program::Statement;
 use std::alloc::Global;
 
 /// How a scalar that a nest assigns gets its value after it.
-#[derive(Clone, Copy)]
+#[derive(Clone, Copy, PartialEq, Eq)]
 pub(crate) enum Final {
     /// Its copies in a row are folded into its slot.
     Folds {
@@ -110,11 +109,13 @@ fn add_final_makes(
 {
     match f {
         Final::Folds { join, row, .. } => {
-            push(code, making(alloc, w, *row, Flat::Int(join.unit()))?)
+            code.push(making(alloc, w, *row, Flat::Int(join.unit()))?)?;
+            Ok(())
         }
         Final::Lasts { row, mark, slot } => {
-            push(code, making(alloc, w, *row, Flat::Slot(*slot))?)?;
-            push(code, making(alloc, w, *mark, Flat::Int(0))?)
+            code.push(making(alloc, w, *row, Flat::Slot(*slot))?)?;
+            code.push(making(alloc, w, *mark, Flat::Int(0))?)?;
+            Ok(())
         }
     }
 }
@@ -130,7 +131,7 @@ fn add_conditions_makes(
 {
     for k in 0..conditions {
         let copy = plus(w.stored, k)?;
-        push(code, making(alloc, w, copy, Flat::Int(0))?)?;
+        code.push(making(alloc, w, copy, Flat::Int(0))?)?;
     }
     Ok(())
 }
@@ -144,7 +145,7 @@ pub(crate) fn add_finals(
     ensures { OnOk result (instructions code.new.items ≡ instructions code.old.items ++ finals_instructions line (map final finals.now)) }
 {
     for f in finals {
-        push(code, final_instruction(f))?;
+        code.push(final_instruction(f))?;
     }
     Ok(())
 }

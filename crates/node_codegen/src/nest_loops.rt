@@ -9,7 +9,6 @@ ghost use Rattle.resolved_program.specs.InnerLoops.{innermost_in, loops_of};
 ghost use Rattle.node_codegen.specs.NestLoops.{innermost_from, loops_from};
 
 use crate::nest_steps::step_flat;
-use crate::sequences::push;
 use expression_code::{index_flat, plus};
 use hpf_base::OutOfMemory;
 use node_code::Instruction;
@@ -128,28 +127,20 @@ pub(crate) fn add_loop_bounds(
 {
     let last = plus(v, 1)?;
     let step = plus(v, 2)?;
-    push(
-        code,
-        Instruction::Set {
-            line,
-            slot: v,
-            value: index_flat(alloc, &l.control.first)?,
-        },
-    )?;
-    push(
-        code,
-        Instruction::Set {
-            line,
-            slot: last,
-            value: index_flat(alloc, &l.control.last)?,
-        },
-    )?;
-    push(
-        code,
-        Instruction::Set {
-            line,
-            slot: step,
-            value: step_flat(alloc, &l.control.step)?,
-        },
-    )
+    code.push(Instruction::Set {
+        line,
+        slot: v,
+        value: index_flat(alloc, &l.control.first)?,
+    })?;
+    code.push(Instruction::Set {
+        line,
+        slot: last,
+        value: index_flat(alloc, &l.control.last)?,
+    })?;
+    code.push(Instruction::Set {
+        line,
+        slot: step,
+        value: step_flat(alloc, &l.control.step)?,
+    })?;
+    Ok(())
 }

@@ -15,7 +15,7 @@ ghost use Rattle.node_codegen.specs.NestNames.{mark_by, over_by, test_by, text_b
 
 use crate::nest_names::NestNames;
 use crate::nest_terms::{NestTerm, nest_subs, nest_term};
-use crate::sequences::{only, push};
+use crate::sequences::only;
 use expression_code::plus;
 use hpf_base::OutOfMemory;
 use node_code::{ArrayForm, Flat, Instruction, NestLeft, NestRole, NestStatement, When};
@@ -96,7 +96,10 @@ fn push_mark(
         ≡ instructions code.old.items ++ mark_instructions w.now.line (over_by w.now) (text_by w.now) (test_by w.now) w.now.stored guard (mark_by w.now k)) }
 {
     match w.mark(k)? {
-        Some(row) => push(code, setting_mark(alloc, w, guard, row)?),
+        Some(row) => {
+            code.push(setting_mark(alloc, w, guard, row)?)?;
+            Ok(())
+        }
         None => Ok(()),
     }
 }

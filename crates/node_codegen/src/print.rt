@@ -11,7 +11,6 @@ ghost use Rattle.array_meaning.specs.Statements.{Elements};
 ghost use Rattle.program_code.specs.StatementCode as definition;
 ghost use Rattle.program_code.specs.StatementCode.{item_code, items_code, items_slots, print_items};
 
-use crate::sequences::push;
 use expression_code::{
     code_of, flat_of, joined, plus, slots_of, subs_of, subscripts_code, subscripts_slots,
 };
@@ -53,7 +52,7 @@ pub(crate) fn print_code(
 {
     let mut code = Vec::new(alloc);
     add_items(alloc, &mut code, line, b, items)?;
-    push(&mut code, Instruction::Print(print_items(alloc, b, items)?))?;
+    code.push(Instruction::Print(print_items(alloc, b, items)?))?;
     Ok(code)
 }
 
@@ -117,18 +116,13 @@ fn add_section(
     ensures { OnOk result (instructions code.new.items ≡ instructions code.old.items ++ item_code line b (Elements array (subscripts_of subscripts.now))) }
 {
     joined(code, subscripts_code(alloc, line, b, subscripts)?)?;
-    push(
-        code,
-        Instruction::OwnLimits(section(alloc, line, b, array, subscripts)?),
-    )?;
-    push(
-        code,
-        Instruction::Inside {
-            line,
-            array,
-            subscripts: subs_of(alloc, b, subscripts)?,
-        },
-    )
+    code.push(Instruction::OwnLimits(section(alloc, line, b, array, subscripts)?))?;
+    code.push(Instruction::Inside {
+        line,
+        array,
+        subscripts: subs_of(alloc, b, subscripts)?,
+    })?;
+    Ok(())
 }
 
 /// A section as an array expression.

@@ -8,15 +8,6 @@ use hpf_base::OutOfMemory;
 use node_code::Instruction;
 use std::alloc::Global;
 
-/// Puts an instruction after other code. A function that pushes by this one doesn't hold the instruction that a `Vec` without room
-/// gives back.
-pub(crate) fn push(code: &mut Vec<Instruction>, one: Instruction) -> Result<(), OutOfMemory>
-    ensures { OnOk result (code.new.items ≡ code.old.items ++ one ∷ []) }
-{
-    code.push(one)?;
-    Ok(())
-}
-
 /// Code with one instruction more after it.
 pub(crate) fn with_last(
     mut code: Vec<Instruction>,
@@ -24,7 +15,7 @@ pub(crate) fn with_last(
 ) -> Result<Vec<Instruction>, OutOfMemory>
     ensures { IfOk result (λ v. instructions v.items ≡ instructions code.items ++ instruction last ∷ []) }
 {
-    push(&mut code, last)?;
+    code.push(last)?;
     Ok(code)
 }
 

@@ -8,7 +8,6 @@ ghost use Rattle.program_code.specs.ExpressionCode.{first_subs, form_of, or_no_s
 ghost use Rattle.program_code.specs.StatementCode.{masked_code, masked_slots, where_code};
 
 use crate::array_assignments::add_masked_assignment;
-use crate::sequences::push;
 use expression_code::{own_evaluation, parts_code, parts_slots, plus, subscripts_slots};
 use hpf_base::OutOfMemory;
 use node_code::{Instruction, When};
@@ -79,25 +78,17 @@ fn push_mask(
         ∷ ParCopy copy (own_evaluation line (form_of b (term mask.now)))
         ∷ Verdict ∷ []) }
 {
-    push(
-        code,
-        Instruction::OwnLimits(own_evaluation(alloc, line, b, mask)?),
-    )?;
-    push(
-        code,
-        Instruction::MakeCopy {
-            copy,
-            evaluation: own_evaluation(alloc, line, b, mask)?,
-        },
-    )?;
-    push(
-        code,
-        Instruction::ParCopy {
-            copy,
-            evaluation: own_evaluation(alloc, line, b, mask)?,
-        },
-    )?;
-    push(code, Instruction::Verdict)
+    code.push(Instruction::OwnLimits(own_evaluation(alloc, line, b, mask)?))?;
+    code.push(Instruction::MakeCopy {
+        copy,
+        evaluation: own_evaluation(alloc, line, b, mask)?,
+    })?;
+    code.push(Instruction::ParCopy {
+        copy,
+        evaluation: own_evaluation(alloc, line, b, mask)?,
+    })?;
+    code.push(Instruction::Verdict)?;
+    Ok(())
 }
 
 /// Puts the code of the assignments, one after another, over the space of the mask, whose slots stand from `free` on.

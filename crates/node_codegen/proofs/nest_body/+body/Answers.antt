@@ -114,11 +114,11 @@ arms_code-returns t c = λ other.
 pub arm_code-returns : goal.arm_code-returns
 arm_code-returns t c =
     let a = c.args.a.now in
-    let body = instructions c.in_ok-body.body.items in
-    arm_is c.args.w.now (arm_test a) (arm_body a) c.args.guard c.args.earlier.now c.args.k c.args.b c.args.pc c.in_ok-copy.copy body (instructions c.in_ok-code.code.items) c.in_ok-copy.ensures
+    arm_is c.args.w.now (arm_test a) (arm_body a) c.args.guard c.args.earlier.now c.args.k c.args.b c.args.pc c.in_ok-copy.copy (instruction c.in_ok-test.test)
+    (instructions c.in_ok-body.body.items) (instructions c.in_ok-code.code.items) c.in_ok-copy.ensures c.in_ok-test.ensures
     (c.in_ok-body.ensures
     ∙ (λ i. body_by c.args.w.now (plain (block_of (c.deref.ensures.value i))) (Some c.args.k) (c.in_ok-next.ensures i) c.args.b (c.in_ok-inside.ensures i)))
-    (c.in_ok-code.ensures ∙ ap (λ l. l ++ body) c.in_ok-head.ensures)
+    c.in_ok-code.ensures
 
 pub else_code-returns-then-is_bare : goal.else_code-returns-then-is_bare
 else_code-returns-then-is_bare t c =
@@ -130,10 +130,10 @@ else_code-returns t c =
     let w = c.args.w.now in
     let other = plain (block_of c.args.other.now) in
     let earlier = c.args.earlier.now in
-    let body = instructions c.in_ok-body.body.items in
     let code = instructions c.in_ok-code.code.items in
     sym (append-nil code)
-    ∙ sym (arm_is w None other c.args.guard earlier c.args.k c.args.b c.args.pc c.in_ok-copy.copy body code c.in_ok-copy.ensures
+    ∙ sym (arm_is w None other c.args.guard earlier c.args.k c.args.b c.args.pc c.in_ok-copy.copy (instruction c.in_ok-test.test)
+    (instructions c.in_ok-body.body.items) code c.in_ok-copy.ensures c.in_ok-test.ensures
     (c.in_ok-body.ensures ∙ (λ i. body_by w other (Some c.args.k) (c.in_ok-next.ensures i) c.args.b (c.in_ok-inside.ensures i)))
-    (c.in_ok-code.ensures ∙ ap (λ l. l ++ body) c.in_ok-head.ensures) NoArm)
+    c.in_ok-code.ensures NoArm)
     ∙ ap (λ l. arms_by w l c.args.guard earlier c.args.k c.args.b c.args.pc) (sym (some_else other (sym c.is_bare.ensures ∙ c.if-is_bare.false)))

@@ -15,5 +15,5 @@ trips_next line target at next n xs within is =
 
 pub loop-index-preserved : goal.loop-index-preserved
 loop-index-preserved c =
-    push_after instruction c.loop-index.code.items c.push.new.code.items c.in_ok-trips.field-0 _ _ _ _ c.in_ok-push.ensures c.in_ok-trips.ensures
+    push_after instruction c.loop-index.code.items c.push.new.self.items c.in_ok-trips.field-0 _ _ _ _ c.in_ok-push.ensures.items c.in_ok-trips.ensures
     (trips_next c.args.line c.args.target c.loop-index.at c.in_ok-at.at c.loop-index._index-index c.args.indices.now c.loop-index-test.true c.in_ok-at.ensures) c.loop-index.invariant

@@ -15,5 +15,5 @@ finals_next line n fs d within =
 
 pub loop-f-preserved : goal.loop-f-preserved
 loop-f-preserved c =
-    push_after instruction c.loop-f.code.items c.push.new.code.items c.final_instruction.result _ _ _ _ c.in_ok-push.ensures (c.final_instruction.ensures c.args.line)
+    push_after instruction c.loop-f.code.items c.push.new.self.items c.final_instruction.result _ _ _ _ c.in_ok-push.ensures.items (c.final_instruction.ensures c.args.line)
     (finals_next c.args.line c.loop-f.f-index c.args.finals.now _ c.loop-f-test.true) c.loop-f.invariant
