@@ -12,7 +12,10 @@
 //! - `print` and items: `text WORD`, `number X`, `section R (..)`
 //! - `foldcopy s1 sum R`, also with `max`, `min`, `iand`, `ior` or `ieor`, and `lastcopy s1 R set R`
 //! - `remap`: what the next REDISTRIBUTE of the text says
+//!
+//! Where an array expression, a copy or a mask stands, `beside R ( .. )` may follow at the end, as `anchors` says.
 
+use crate::anchors::read_beside;
 use crate::expressions::{read_flat, read_flats, read_form, read_subs};
 use crate::nests::{read_copies, read_nest};
 use crate::words::Words;
@@ -292,17 +295,17 @@ fn read_assignment(alloc: Global, line: u32, words: &mut Words<'_>) -> Assignmen
         right: read_form(alloc, words),
         over: read_over(alloc, words),
         mask: read_mask(words),
+        beside: read_beside(alloc, words),
     }
 }
 
 /// Takes a mask, if one stands there.
 pub(crate) fn read_mask(words: &mut Words<'_>) -> Option<When> {
-    let word = words.word();
-    if word.is_empty() {
+    let value = words.front() == "where";
+    if !value && words.front() != "unless" {
         return None;
     }
-    let value = word == "where";
-    words.are_well = words.are_well && (value || word == "unless");
+    let _mask = words.word();
     Some(When {
         copy: words.row(),
         value,
@@ -314,6 +317,7 @@ fn read_evaluation(alloc: Global, line: u32, words: &mut Words<'_>) -> Evaluatio
         line,
         form: read_form(alloc, words),
         over: read_over(alloc, words),
+        beside: read_beside(alloc, words),
     }
 }
 

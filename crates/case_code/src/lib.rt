@@ -5,6 +5,7 @@
 //! the end of a line. `instructions` says how each instruction is written, and `expressions` what stands in them.
 #![tactic(auto)]
 
+mod anchors;
 mod expressions;
 mod instructions;
 mod nests;

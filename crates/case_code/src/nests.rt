@@ -1,5 +1,6 @@
 //! Instructions of nests, as cases write them.
 
+use crate::anchors::read_beside;
 use crate::expressions::{read_flat, read_form, read_subs};
 use crate::instructions::{read_mask, read_over};
 use crate::words::Words;
@@ -18,6 +19,7 @@ pub(crate) fn read_copies(alloc: Global, words: &mut Words<'_>) -> Instruction {
         copy,
         over: read_over(alloc, words),
         start,
+        beside: read_beside(alloc, words),
     }
 }
 
@@ -35,6 +37,7 @@ pub(crate) fn read_nest(alloc: Global, line: u32, words: &mut Words<'_>) -> Nest
         whens: read_masks(alloc, words),
         left,
         role,
+        beside: read_beside(alloc, words),
     }
 }
 
@@ -78,7 +81,7 @@ fn read_rows(alloc: Global, words: &mut Words<'_>) -> Vec<usize> {
     rows
 }
 
-/// Takes the masks to the end of the line.
+/// Takes the masks that stand there.
 fn read_masks(alloc: Global, words: &mut Words<'_>) -> Vec<When> {
     let mut whens = Vec::new(alloc);
     for _ in 0..ROWS {
@@ -88,6 +91,5 @@ fn read_masks(alloc: Global, words: &mut Words<'_>) -> Vec<When> {
             words.are_well = false;
         }
     }
-    words.skip("");
     whens
 }

@@ -5,7 +5,7 @@ use Rattle.std.proofs.Math.Seq.{take-append_seam, drop-append_seam}
 use Rattle.node_code.specs.FaultKind.{FaultKind}
 use Rattle.node_code.specs.FaultKind.TheVariants.{Bounds, DivZero, Shape, ZeroStride, NotOneToOne, SpaceLimit, Interfere}
 use Rattle.node_code.specs.Faults.{Object, Location, Nowhere, AtTuple, Between, Fault}
-use Rattle.machine_steps.specs.Node.{FaultValues}
+use Rattle.aligned_copies.specs.Node.{FaultValues}
 use Rattle.code_meaning.specs.FaultNumbers.{between, fault_numbers, fault_of, kind_at, kind_number, location_numbers, location_of, subscript_numbers, subscripts_of}
 
 kind_back : (k : FaultKind) → kind_at (kind_number k) ≡ k

@@ -15,12 +15,12 @@ use Rattle.node_code.specs.Elementals.{each}
 use Rattle.node_code.specs.NestEntry.{entered}
 use Rattle.node_code.specs.Execution.{decimals}
 use Rattle.mappings.specs.declared.mapping.Mapping.{Mapping}
-use Rattle.machine_steps.specs.Layout.{Layout}
-use Rattle.machine_steps.specs.Instr as machine
-use Rattle.machine_steps.specs.Instr.{Instr, Local, Control, Remapping, Rounds}
-use Rattle.machine_steps.specs.Machine.{on, faulted, set_slot}
-use Rattle.machine_steps.specs.SameLayouts.{is_same_layout}
-use Rattle.machine_steps.specs.Space.{space_count}
+use Rattle.aligned_copies.specs.Layout.{Layout}
+use Rattle.aligned_copies.specs.Instr as machine
+use Rattle.aligned_copies.specs.Instr.{Instr, Local, Control, Remapping, Rounds}
+use Rattle.aligned_copies.specs.Machine.{on, faulted, set_slot}
+use Rattle.aligned_copies.specs.SameLayouts.{is_same_layout}
+use Rattle.aligned_copies.specs.Space.{space_count}
 use Rattle.aligned_copies.specs.Beside.{Anchor}
 use Rattle.node_code.specs.Flat.{Flats}
 use Rattle.code_meaning.specs.Flat.{slot, flat_value, flat_values, slots_value}
@@ -28,6 +28,7 @@ use Rattle.node_code.specs.Forms.{Sub}
 use Rattle.code_meaning.specs.Forms.{selections_in}
 use Rattle.code_meaning.specs.Parallel.{at_line, shape_of, spot_of, assignment_size, assignment_tuples, assigned_spot, evaluation_extents, evaluation_size, evaluation_tuples, reduction_tuples, fold_of, copy_spot, forall_tuples, forall_spot, forall_mask_tuples}
 use Rattle.code_meaning.specs.ForallLimits.{forall_limits, one_to_one}
+use Rattle.code_meaning.specs.Anchors.{anchor_in}
 use Rattle.code_meaning.specs.NestStatements.{nest_tuples, nest_spot, copies_extents}
 use Rattle.code_meaning.specs.NestChecks.{entry_state}
 use Rattle.node_code.specs.Instructions.{PrintItem, PrintBytes, PrintNumber, PrintSection, NewMapping, Instruction, Set, Fetch, Store, TestBounds, TestStride, Trips, Jump, JumpIfZero, Halt, Limits, OwnLimits, ForallLimits, OneToOne, Check, Par, ParForall, ParNest, MakeCopies, MakeCopy, ParCopy, ParForallCopy, Verdict, Reduce, Inside, Print, FoldCopy, LastCopy, Remap}
@@ -133,9 +134,10 @@ meaning_of table (Check line mark) = Local (λ c. go_on_if (at_line line (entere
 meaning_of table (Par p) = machine.Par (assignment_tuples table.shapes p) (assigned_spot table.shapes p)
 meaning_of table (ParForall p) = machine.Par (forall_tuples table.shapes p) (forall_spot table.shapes p)
 meaning_of table (ParNest p) = machine.Par (nest_tuples table.shapes p) (nest_spot table.shapes p)
-meaning_of table (MakeCopies copy over start) =
-    machine.MakeCopy copy (λ layouts slots. table.copies layouts None (copies_extents over slots)) (λ slots. slots_value slots start)
-meaning_of table (MakeCopy copy p) = machine.MakeCopy copy (λ layouts slots. table.copies layouts None (evaluation_extents p slots)) (λ slots. pos 0)
+meaning_of table (MakeCopies copy over start beside) =
+    machine.MakeCopy copy (λ layouts slots. table.copies layouts (anchor_in slots over beside) (copies_extents over slots)) (λ slots. slots_value slots start)
+meaning_of table (MakeCopy copy p) =
+    machine.MakeCopy copy (λ layouts slots. table.copies layouts (anchor_in slots p.over p.beside) (evaluation_extents p slots)) (λ slots. pos 0)
 meaning_of table (ParCopy copy p) = machine.Par (evaluation_tuples table.shapes p) (copy_spot copy)
 meaning_of table (ParForallCopy copy p) = machine.Par (forall_mask_tuples table.shapes p) (copy_spot copy)
 meaning_of table Verdict = machine.Verdict

@@ -2,6 +2,7 @@ pub mod Flat
 pub mod Forms
 pub mod Parallel
 pub mod ForallLimits
+pub mod Anchors
 pub mod NestStatements
 pub mod NestChecks
 pub mod Instructions

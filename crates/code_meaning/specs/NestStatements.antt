@@ -1,6 +1,6 @@
 -- Of the claim.
 -- What a parallel statement of a nest of INDEPENDENT loops (HPF 2.0, 5.1) does at an iteration, by the values of the elements and copies that it reads.
-use Rattle.std.specs.Prelude.{ℕ, ◌+◌, List, [], ◌∷◌, ◌++◌, length, take, drop, slice_index_or, ℤ, pos, Bool, true, ◌&&◌, Option, Some, option_map, Result}
+use Rattle.std.specs.Prelude.{ℕ, List, [], ◌∷◌, ◌++◌, length, take, drop, slice_index_or, ℤ, pos, Bool, true, ◌&&◌, Option, Some, option_map, Result}
 use Rattle.op_tables.specs.declared.reductions.Made.{Made}
 use Rattle.op_tables.specs.declared.reductions.Made.TheVariants as made
 use Rattle.op_tables.specs.Operators.{is_true}
@@ -10,8 +10,8 @@ use Rattle.node_code.specs.Faults.{Cause, Fault, ◌>>=◌}
 use Rattle.node_code.specs.State.{element_place, if_in_bounds}
 use Rattle.node_code.specs.Sections.{extents, subscripts_at}
 use Rattle.node_code.specs.Elementals.{Elemental, Same, Selected, Operation, Elementals, NoOperand, Operand}
-use Rattle.machine_steps.specs.Instr.{Tuples}
-use Rattle.machine_steps.specs.Space.{space_count}
+use Rattle.aligned_copies.specs.Instr.{Tuples}
+use Rattle.aligned_copies.specs.Space.{space_count}
 use Rattle.node_code.specs.declared.nest.NestRole.{NestRole}
 use Rattle.node_code.specs.declared.nest.NestRole.TheVariants.{Tests}
 use Rattle.code_meaning.specs.Flat.{flat_value, or_zero}

@@ -13,8 +13,8 @@ use Rattle.node_code.specs.State.{element_place, if_in_bounds}
 use Rattle.node_code.specs.Selection.{Selection}
 use Rattle.node_code.specs.Sections.{extents, subscripts_at, positions, space_size}
 use Rattle.node_code.specs.Elementals.{Elemental, Same, Selected, Operation, Elementals, NoOperand, Operand, sections, operated}
-use Rattle.machine_steps.specs.Instr.{Outcome, Nothing, Value, Breaks, Tuples, Fold}
-use Rattle.machine_steps.specs.Space.{space_count}
+use Rattle.aligned_copies.specs.Instr.{Outcome, Nothing, Value, Breaks, Tuples, Fold}
+use Rattle.aligned_copies.specs.Space.{space_count}
 use Rattle.node_code.specs.Forms.{Sub}
 use Rattle.code_meaning.specs.Forms.{selections_at, selections_in, elemental_at, elemental_in}
 use Rattle.node_code.specs.Parallel.{When, Assignment, Evaluation}

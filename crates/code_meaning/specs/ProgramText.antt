@@ -5,8 +5,8 @@ use Rattle.std.specs.Prelude.{ℕ, List, map}
 use Rattle.mappings.specs.declared.mapping.Mapping.{Mapping}
 use Rattle.node_code.specs.Dim.{Dim}
 use Rattle.node_code.specs.Faults.{Fault}
-use Rattle.machine_steps.specs.Instr.{Instr}
-use Rattle.machine_steps.specs.Rounds.{rounds_on}
+use Rattle.aligned_copies.specs.Instr.{Instr}
+use Rattle.aligned_copies.specs.Rounds.{rounds_on}
 use Rattle.aligned_copies.specs.Beside.{aligned_layout}
 use Rattle.code_meaning.specs.Instructions.{ArrayTable, meaning_of}
 use Rattle.node_code.specs.Instructions.{Instruction}

@@ -8,6 +8,7 @@ use Rattle.op_tables.specs.Operators.{can_divide}
 use Rattle.node_code.specs.Dim.{Dim}
 use Rattle.node_code.specs.Flat.{Flat, Int, Slot, Axis, Read, Operated, Flats, NoFlat, AndFlat}
 use Rattle.node_code.specs.Forms.{Sub, SubAt, SubAlong, ArrayForm, FlatForm, SectionForm, OperationForm, Forms, NoForm, AndForm}
+use Rattle.node_code.specs.Anchors.{AnchorSub, AnchorAt, AnchorAlong, FlatAnchor}
 use Rattle.node_code.specs.Parallel.{When, Assignment, Evaluation}
 use Rattle.code_meaning.specs.Parallel.{shape_of}
 use Rattle.node_code.specs.NestStatements.{NestLeft, ElementLeft, CopyLeft, NestStatement}
@@ -94,16 +95,25 @@ module _ (table : CodeTable) where
     AreForms axes NoForm = ⊤
     AreForms axes (AndForm f fs) = IsForm axes f × AreForms axes fs
 
+  -- what copies lie beside: an element of an array, with a subscript for each dimension
+  abbrev pub IsAnchorSub : ℕ → AnchorSub → Type 0
+  IsAnchorSub axes (AnchorAt f) = IsFlat axes f
+  IsAnchorSub axes (AnchorAlong first stride) = IsFlat 0 first × IsFlat 0 stride
+
+  abbrev pub IsAnchor : ℕ → Option FlatAnchor → Type 0
+  IsAnchor axes None = ⊤
+  IsAnchor axes (Some a) = IsReference a.array (length a.subscripts) × AllByRecursion (IsAnchorSub axes) a.subscripts
+
   -- a mask, an assignment under one or none, and an array expression by itself
   abbrev pub IsMask : Option When → Type 0
   IsMask None = ⊤
   IsMask (Some w) = IsCopy w.copy
 
   abbrev pub IsAssignment : ℕ → Assignment → Type 0
-  IsAssignment axes p = IsSection axes p.array p.left × IsForm axes p.right × IsSpace p.over × IsMask p.mask
+  IsAssignment axes p = IsSection axes p.array p.left × IsForm axes p.right × IsSpace p.over × IsMask p.mask × IsAnchor (length p.over) p.beside
 
   abbrev pub IsEvaluation : ℕ → Evaluation → Type 0
-  IsEvaluation axes p = IsForm axes p.form × IsSpace p.over
+  IsEvaluation axes p = IsForm axes p.form × IsSpace p.over × IsAnchor (length p.over) p.beside
 
   -- ---- statements of nests
 
@@ -128,6 +138,7 @@ module _ (table : CodeTable) where
     pub copies : AllByRecursion IsCopy p.copies
     pub left : IsNestLeft (length p.over) p.left
     pub right : IsNestForm (length p.over) (length p.over + length p.copies) p.right
+    pub beside : IsAnchor (length p.over) p.beside
 
   -- ---- instructions
 
@@ -160,7 +171,7 @@ module _ (table : CodeTable) where
   IsValid (Par p) = IsAssignment 0 p
   IsValid (ParForall p) = IsAssignment (length p.over) p
   IsValid (ParNest p) = IsNestStatement p
-  IsValid (MakeCopies copy over start) = IsCopy copy × IsSpace over × IsFlat 0 start
+  IsValid (MakeCopies copy over start beside) = IsCopy copy × IsSpace over × IsFlat 0 start × IsAnchor (length over) beside
   IsValid (MakeCopy copy p) = IsCopy copy × IsEvaluation (length p.over) p
   IsValid (ParCopy copy p) = IsCopy copy × IsEvaluation 0 p
   IsValid (ParForallCopy copy p) = IsCopy copy × IsEvaluation (length p.over) p

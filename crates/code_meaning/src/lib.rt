@@ -11,6 +11,7 @@
 //!   evaluation of sections.
 //! - `Parallel`: what a parallel statement does at a tuple, by the values of the elements that it reads.
 //! - `ForallLimits`: the limits of a FORALL, and assignments of it that meet.
+//! - `Anchors`: what copies lie beside, by the positions of a tuple.
 //! - `NestStatements`: what a statement of a nest of INDEPENDENT loops does at an iteration.
 //! - `NestChecks`: what the check of a nest of INDEPENDENT loops at its entry sees of the slots.
 //! - `Instructions`: all instructions. The numbers of arrays and of copies are the rows of the machine.

@@ -7,6 +7,7 @@ use Rattle.hpf_base.specs.declared.index.Shape.{Shape}
 use Rattle.hpf_base.specs.declared.limits.TheConstants.{MAX_RANK}
 use Rattle.array_meaning.specs.Statements as statements
 use Rattle.array_meaning.specs.Statements.{Loop, Nest, Mark, Unmarked, Outermost, Block, Done, Then, Statement, AssignScalar, AssignElement, AssignSection, If, Do, Where, Forall, Stop, Exit, Cycle, Continue, Redistribute, Arms, NoArm, Arm}
+use Rattle.node_code.specs.Anchors.{FlatAnchor}
 use Rattle.node_code.specs.Flat.{Int}
 use Rattle.node_code.specs.Forms.{Sub}
 use Rattle.node_code.specs.Instructions.{Instruction, Jump, Verdict, NewMapping, Par, ParForall, ParNest, MakeCopies, ParCopy, ParForallCopy, Reduce, MakeCopy, Remap}
@@ -17,7 +18,7 @@ use Rattle.nest_syntax.specs.Finals.{Final}
 use Rattle.program_code.specs.NestTexts.{NestText, NestTest}
 use Rattle.program_code.specs.NestInstructions as forms
 use Rattle.program_code.specs.NestInstructions.{NestBody, NoText, AndText, AndIf, AndLoop, NestArms, AndArm, count_nest, text_instructions, test_instruction, tail_instructions, loop_instructions, body_instructions, arms_instructions, nest_instructions, finals_makes, conditions_makes, finals_instructions}
-use Rattle.program_code.specs.NestCode.{plain, text_in, test_in, stored, finals, along, trips_code, indices_code, inner_bounds, nest_code}
+use Rattle.program_code.specs.NestCode.{plain, nest_beside, text_in, test_in, stored, finals, along, trips_code, indices_code, inner_bounds, nest_code}
 use Rattle.nodes_lowered.specs.StatementCode.{marked_code, entry_code, statement_code, arms_code, block_code, program_code}
 use Rattle.owner_tables.specs.Views.{TableView}
 use Rattle.node_program.specs.Fits.{fits_row, fits_rows}
@@ -43,7 +44,7 @@ module _ (table : CodeTable) (none : table.maps ≡ 0) (tables : List TableView)
   follows (Par p) h = le-leb (length p.over) MAX_RANK h.2.0
   follows (ParForall p) h = le-leb (length p.over) MAX_RANK h.2.0
   follows (ParNest p) h = le-leb (length p.over) MAX_RANK h.over.0
-  follows (MakeCopies copy over start) h =
+  follows (MakeCopies copy over start beside) h =
       and_from (nat_le (length table.shapes) copy) (nat_le (length over) MAX_RANK) (le-leb (length table.shapes) copy h.0.0) (le-leb (length over) MAX_RANK h.1.0)
   follows (ParCopy copy p) h = le-leb (length p.over) MAX_RANK h.1.1.0
   follows (ParForallCopy copy p) h = le-leb (length p.over) MAX_RANK h.1.1.0
@@ -73,18 +74,18 @@ module _ (table : CodeTable) (none : table.maps ≡ 0) (tables : List TableView)
 
   -- ---- nests, wherever they stand
 
-  module _ (line : ℕ) (over : List Sub) {A C : Type 0} (text_of : A → NestText) (test_of : C → NestTest) (stored : ℕ) where
+  module _ (line : ℕ) (over : List Sub) (beside : Option FlatAnchor) {A C : Type 0} (text_of : A → NestText) (test_of : C → NestTest) (stored : ℕ) where
     mutual
       body-follows : (body : NestBody A C) (guard : Option ℕ) (k b pc pc' : ℕ)
-          → Follow (body_instructions line over text_of test_of stored body guard k b pc) (body_instructions line over text_of test_of stored body guard k b pc')
+          → Follow (body_instructions line over beside text_of test_of stored body guard k b pc) (body_instructions line over beside text_of test_of stored body guard k b pc')
       body-follows NoText guard k b pc pc' = tt
-      body-follows (AndText a rest) guard k b pc pc' = after (text_instructions line over text_of test_of stored guard a) _ _ (body-follows rest guard k b _ _)
+      body-follows (AndText a rest) guard k b pc pc' = after (text_instructions line over beside text_of test_of stored guard a) _ _ (body-follows rest guard k b _ _)
       body-follows (AndIf arms rest) guard k b pc pc' =
-          join (arms_instructions line over text_of test_of stored arms guard [] k b pc) _ (arms_instructions line over text_of test_of stored arms guard [] k b pc') _
+          join (arms_instructions line over beside text_of test_of stored arms guard [] k b pc) _ (arms_instructions line over beside text_of test_of stored arms guard [] k b pc') _
           (nest-arms-follow arms guard [] k b pc pc') (body-follows rest guard _ b _ _)
       body-follows (AndLoop bounds inner rest) guard k b pc pc' =
-          let own = body_instructions line over text_of test_of stored inner guard k (b + 4) (pc + 5) in
-          let own' = body_instructions line over text_of test_of stored inner guard k (b + 4) (pc' + 5) in
+          let own = body_instructions line over beside text_of test_of stored inner guard k (b + 4) (pc + 5) in
+          let own' = body_instructions line over beside text_of test_of stored inner guard k (b + 4) (pc' + 5) in
           join (loop_instructions line bounds b pc own) _ (loop_instructions line bounds b pc' own') _ (
             (λ h. refl),
             (
@@ -104,22 +105,22 @@ module _ (table : CodeTable) (none : table.maps ≡ 0) (tables : List TableView)
           ) (body-follows rest guard _ b _ _)
 
       nest-arms-follow : (arms : NestArms A C) (guard : Option ℕ) (earlier : List ℕ) (k b pc pc' : ℕ)
-          → Follow (arms_instructions line over text_of test_of stored arms guard earlier k b pc) (arms_instructions line over text_of test_of stored arms guard earlier k b pc')
+          → Follow (arms_instructions line over beside text_of test_of stored arms guard earlier k b pc) (arms_instructions line over beside text_of test_of stored arms guard earlier k b pc')
       nest-arms-follow forms.NoArm guard earlier k b pc pc' = tt
       nest-arms-follow (AndArm test body others) guard earlier k b pc pc' = (
-        follows (MakeCopies (stored + k) over (Int (pos 0))),
+        follows (MakeCopies (stored + k) over (Int (pos 0)) beside),
         (
-          follows (test_instruction line over text_of test_of stored (tested_asked guard earlier) test (stored + k)),
-          join (body_instructions line over text_of test_of stored body (Some k) (k + 1) b (pc + 2)) _ (body_instructions line over text_of test_of stored body (Some k) (k + 1) b (pc' + 2)) _
+          follows (test_instruction line over beside text_of test_of stored (tested_asked guard earlier) test (stored + k)),
+          join (body_instructions line over beside text_of test_of stored body (Some k) (k + 1) b (pc + 2)) _ (body_instructions line over beside text_of test_of stored body (Some k) (k + 1) b (pc' + 2)) _
               (body-follows body (Some k) (k + 1) b (pc + 2) (pc' + 2)) (nest-arms-follow others guard (k ∷ earlier) _ b _ _),
         ),
       )
 
     statements-follow : (fs : List Final) (body : NestBody A C) (b pc pc' : ℕ)
-        → Follow (nest_instructions line over text_of test_of stored fs body b pc) (nest_instructions line over text_of test_of stored fs body b pc')
+        → Follow (nest_instructions line over beside text_of test_of stored fs body b pc) (nest_instructions line over beside text_of test_of stored fs body b pc')
     statements-follow fs body b pc pc' =
-        after (finals_makes line over fs ++ conditions_makes line over stored (count_nest body)) _ _
-        (join (body_instructions line over text_of test_of stored body None 0 b _) _ (body_instructions line over text_of test_of stored body None 0 b _) _ (body-follows body None 0 b _ _)
+        after (finals_makes line over beside fs ++ conditions_makes line over beside stored (count_nest body)) _ _
+        (join (body_instructions line over beside text_of test_of stored body None 0 b _) _ (body_instructions line over beside text_of test_of stored body None 0 b _) _ (body-follows body None 0 b _ _)
         (same (Verdict ∷ finals_instructions line fs)))
 
   trips-follow : (line v target target' : ℕ) (ls : List Loop) → Follow (trips_code line v target ls) (trips_code line v target' ls)
@@ -134,9 +135,9 @@ module _ (table : CodeTable) (none : table.maps ≡ 0) (tables : List TableView)
   nest-follows line nest body v pc pc' =
       after (inner_bounds line v nest.loops) _ _
       (join (trips_code line v _ nest.loops) _ (trips_code line v _ nest.loops) _ (trips-follow line v _ _ nest.loops)
-      (join (nest_instructions line (along v nest.loops) (text_in n nest body) (test_in n nest body) (stored n nest body) (finals n nest body) (plain body) (v + 4 * length nest.loops) _) _
-      (nest_instructions line (along v nest.loops) (text_in n nest body) (test_in n nest body) (stored n nest body) (finals n nest body) (plain body) (v + 4 * length nest.loops) _) _
-      (statements-follow line (along v nest.loops) (text_in n nest body) (test_in n nest body) (stored n nest body) (finals n nest body) (plain body) (v + 4 * length nest.loops) _ _)
+      (join (nest_instructions line (along v nest.loops) (nest_beside nest body) (text_in n nest body) (test_in n nest body) (stored n nest body) (finals n nest body) (plain body) (v + 4 * length nest.loops) _) _
+      (nest_instructions line (along v nest.loops) (nest_beside nest body) (text_in n nest body) (test_in n nest body) (stored n nest body) (finals n nest body) (plain body) (v + 4 * length nest.loops) _) _
+      (statements-follow line (along v nest.loops) (nest_beside nest body) (text_in n nest body) (test_in n nest body) (stored n nest body) (finals n nest body) (plain body) (v + 4 * length nest.loops) _ _)
       (indices-follow line v _ _ nest.loops)))
 
   marked-follows : (mark : Mark) (line v pc pc' : ℕ) (loops loops' : List Instruction) → Follow loops loops' → Follow (marked_code n line mark v pc loops) (marked_code n line mark v pc' loops')

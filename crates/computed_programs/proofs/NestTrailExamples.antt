@@ -1,15 +1,16 @@
 -- Which parts of a nest of INDEPENDENT loops a run reaches. In the comments a bar stands for the end of a line. All programs declare
 -- INTEGER :: A(3) = 2, B(3), I, J, T.
-use Rattle.std.specs.Prelude.{◌≡◌, refl, codes, ℕ, List, [], ◌∷◌, pos, true, false, Some, None}
+use Rattle.std.specs.Prelude.{◌≡◌, refl, codes, ℕ, List, [], ◌∷◌, pos, true, false, Option, Some, None}
 use Rattle.std.specs.Int.{int_wrap}
 use Rattle.op_tables.specs.declared.op.Op.{Op}
 use Rattle.op_tables.specs.declared.op.Op.TheVariants as op
 use Rattle.syntax_tree.specs.Statement as s
 use Rattle.name_table.specs.declared.names.Entry.{Entry}
-use Rattle.array_meaning.specs.Terms.{Term, Number, Scalar, Element, Apply, NoTerm, More}
+use Rattle.array_meaning.specs.Terms.{Term, Number, Scalar, Index, Element, Apply, NoTerm, More}
 use Rattle.array_meaning.specs.declared.sections.Sequence.{Sequence}
 use Rattle.array_meaning.specs.declared.sections.Selection.TheVariants.{Along}
 use Rattle.array_meaning.specs.Elementals.{Selected}
+use Rattle.statement_trail.specs.Anchors.{AtTerm, AnchorText}
 use Rattle.statement_trail.specs.NestParts.{EnteredNest, NestPart, ScalarPart, ElementPart, ConditionPart}
 use Rattle.nest_syntax.specs.Asked.{Asked}
 use Rattle.statement_trail.specs.Trail.{TrailEntry, Reduced, OfNest, trail_of}
@@ -32,6 +33,10 @@ term o a b = Apply o (More a (More b NoTerm))
 abbrev at_i : ℕ → Term
 at_i a = Element a (More (Scalar 2) NoTerm)
 
+-- beside an element of the array at a place, at the nest's index of this number, the innermost loop's first
+abbrev beside_index : (array index : ℕ) → Option AnchorText
+beside_index a k = Some record { array = a; subscripts = AtTerm (Index k) ∷ [] }
+
 -- a part of a line; J has this value, and the other scalars are 0
 abbrev part : EnteredNest → ℕ → ℕ → List Asked → NestPart → TrailEntry
 part entered line j asked p = record { line = line; scalars = pos 0 ∷ pos 0 ∷ pos 0 ∷ pos j ∷ pos 0 ∷ []; event = OfNest entered asked p }
@@ -46,7 +51,7 @@ fails k = record { number = k; value = false }
 -- holds. An inner loop's trips come one after another, and its index alone is as they leave it.
 -- !HPF$ INDEPENDENT, NEW(T)|DO I = 1, 2|T = A(I)|IF (T > 1) THEN|B(I) = T|ELSE IF (A(I) > 0) THEN|B(I) = I|ELSE|B(I) = 0|END IF|DO J = 1, 2|T = T + J|END DO|END DO|END
 abbrev of_one : EnteredNest
-of_one = record { indices = 2 ∷ []; axes = from_one 2 ∷ []; assigned = 4 ∷ []; conditions = 3 }
+of_one = record { indices = 2 ∷ []; axes = from_one 2 ∷ []; assigned = 4 ∷ []; conditions = 3; beside = beside_index 1 0 }
 
 each_statement : trail_of names (block (
     nest 2 (T ∷ []) [] 3 (axis I (n 1) (n 2)) (
@@ -71,7 +76,7 @@ each_statement = refl
 -- An IF in a branch: each of its conditions is asked for beside the branch's, and an ELSE that has CONTINUE alone has none. The innermost loop's index comes first.
 -- !HPF$ INDEPENDENT, NEW(I)|DO J = 1, 3|!HPF$ INDEPENDENT|DO I = 1, 1|IF (J > 2) THEN|IF (I > J) THEN|B(J) = 1|ELSE|CONTINUE|END IF|B(J) = 2|END IF|END DO|END DO|END
 abbrev of_two : EnteredNest
-of_two = record { indices = 2 ∷ 3 ∷ []; axes = from_one 1 ∷ from_one 3 ∷ []; assigned = []; conditions = 2 }
+of_two = record { indices = 2 ∷ 3 ∷ []; axes = from_one 1 ∷ from_one 3 ∷ []; assigned = []; conditions = 2; beside = beside_index 1 1 }
 
 if_in_branch : trail_of names (block (
     nest 2 (I ∷ []) [] 3 (axis J (n 1) (n 3)) (
@@ -87,10 +92,31 @@ if_in_branch : trail_of names (block (
 unfolding int_wrap
 if_in_branch = refl
 
+-- What the copies lie beside is assigned outside the inner loops. The expression in a subscript keeps its scalars, and the nest's index is one of a space.
+-- !HPF$ INDEPENDENT|DO I = 1, 2|DO J = 1, 1|A(I) = J|END DO|B(I + T) = 0|END DO|END
+abbrev of_inner : EnteredNest
+of_inner = record {
+  indices = 2 ∷ [];
+  axes = from_one 2 ∷ [];
+  assigned = [];
+  conditions = 0;
+  beside = Some record { array = 1; subscripts = AtTerm (term op.Add (Index 0) (Scalar 4)) ∷ [] };
+}
+
+outside_inner_loops : trail_of names (block (
+    nest 2 [] [] 3 (axis I (n 1) (n 2)) (
+    loop 4 (axis J (n 1) (n 1)) (set 5 (element_at A (v I)) (v J) ∷ []) ∷
+    set 7 (element_at B (add (v I) (v T))) (n 0) ∷ []) ∷ []))
+    ≡ part of_inner 5 1 [] (ElementPart 0 (More (Scalar 2) NoTerm) (Scalar 3))
+    ∷ part of_inner 7 2 [] (ElementPart 1 (More (term op.Add (Scalar 2) (Scalar 4)) NoTerm) (Number (pos 0)))
+    ∷ []
+unfolding int_wrap
+outside_inner_loops = refl
+
 -- All parts are reached where the nest ends with a fault, here DivZero in its first iteration, and nothing after it.
 -- !HPF$ INDEPENDENT|DO I = 1, 2|A(I) = 1 / (I - 1)|B(I) = 2|END DO|I = SUM(B)|END
 abbrev of_fault : EnteredNest
-of_fault = record { indices = 2 ∷ []; axes = from_one 2 ∷ []; assigned = []; conditions = 0 }
+of_fault = record { indices = 2 ∷ []; axes = from_one 2 ∷ []; assigned = []; conditions = 0; beside = beside_index 0 0 }
 
 all_at_fault : trail_of names (block (
     nest 2 [] [] 3 (axis I (n 1) (n 2)) (

@@ -1,5 +1,5 @@
 -- Which parts a run reaches. In the comments a bar stands for the end of a line. All programs declare INTEGER :: A(3) = 2, B(3), K = 1, I.
-use Rattle.std.specs.Prelude.{◌≡◌, refl, ℕ, List, [], ◌∷◌, pos, true, false, None}
+use Rattle.std.specs.Prelude.{◌≡◌, refl, ℕ, List, [], ◌∷◌, pos, negsuc, true, false, Option, Some, None}
 use Rattle.std.specs.Int.{int_wrap}
 use Rattle.op_tables.specs.declared.op.Op.TheVariants as op
 use Rattle.syntax_tree.specs.Directive.{Cyclic}
@@ -10,8 +10,9 @@ use Rattle.array_meaning.specs.Terms.{Number, Index, Element, Apply, NoTerm, Mor
 use Rattle.array_meaning.specs.declared.sections.Sequence.{Sequence}
 use Rattle.array_meaning.specs.declared.sections.Selection.TheVariants.{Along}
 use Rattle.array_meaning.specs.Elementals.{Elemental, Same, Selected, Operation, NoOperand, Operand}
+use Rattle.statement_trail.specs.Anchors.{AtTerm, AlongTerms, AnchorText}
 use Rattle.statement_trail.specs.Trail.{Event, TrailEntry, SectionAssigned, WhereMask, Reduced, ForallMask, ElementsAssigned, Redistributed, trail_of}
-use Rattle.computed_programs.proofs.Shorthands.{A, B, I, K, scalar, vector, n, v, add, mul, div, gt, call, range, variable, variable_at, element_at, assign, axis, at, set, print, block, loop, where_mask, forall_over, forall_masked, sub, element, parts}
+use Rattle.computed_programs.proofs.Shorthands.{A, B, I, K, scalar, vector, n, v, minus, add, mul, div, gt, call, range, range_by, variable, variable_at, element_at, assign, axis, at, set, print, block, loop, where_mask, forall_over, forall_masked, sub, element, parts}
 
 abbrev names : List Entry
 names = vector A 3 2 ∷ vector B 3 0 ∷ scalar K (pos 1) ∷ scalar I (pos 0) ∷ []
@@ -26,6 +27,13 @@ from_one = up_to 3
 abbrev all_of : ℕ → Elemental
 all_of a = Selected a (Along from_one ∷ [])
 
+-- what the copy of a mask lies beside: all elements of the array at a place, or its element at the index of a FORALL
+abbrev beside_all : ℕ → Option AnchorText
+beside_all a = Some record { array = a; subscripts = AlongTerms (Number (pos 1)) (Number (pos 1)) ∷ [] }
+
+abbrev beside_index : ℕ → Option AnchorText
+beside_index a = Some record { array = a; subscripts = AtTerm (Index 0) ∷ [] }
+
 -- what is reached at a line; K is 1, and I has this value
 abbrev reached : ℕ → ℕ → Event → TrailEntry
 reached line i event = record { line = line; scalars = pos 0 ∷ pos 0 ∷ pos 1 ∷ pos i ∷ []; event = event }
@@ -39,11 +47,11 @@ each_part : trail_of names (block (
     at 5 (s.Redistribute record { names = A ∷ []; formats = Cyclic None ∷ []; onto = None }) ∷
     set 6 (variable_at B (range (n 1) (n 2) ∷ [])) (v A) ∷ []))
     ≡ reached 2 0 (Reduced op.Sum (3 ∷ []) (all_of 1))
-    ∷ reached 2 0 (SectionAssigned false (3 ∷ []) 0 (Along from_one ∷ []) (Operation op.Add (Operand (all_of 0) (Operand (Same (pos 0)) NoOperand))))
-    ∷ reached 3 0 (WhereMask (3 ∷ []) (Operation op.Gt (Operand (all_of 0) (Operand (Same (pos 1)) NoOperand))))
-    ∷ reached 3 0 (SectionAssigned true (3 ∷ []) 1 (Along from_one ∷ []) (Operation op.Div (Operand (Same (pos 1)) (Operand (all_of 0) NoOperand))))
-    ∷ reached 4 0 (ForallMask (from_one ∷ []) (Apply op.Gt (More (Index 0) (More (Number (pos 1)) NoTerm))))
-    ∷ reached 4 0 (ElementsAssigned true (from_one ∷ []) 1 (More (Index 0) NoTerm) (Element 0 (More (Index 0) NoTerm)))
+    ∷ reached 2 0 (SectionAssigned false None (3 ∷ []) 0 (Along from_one ∷ []) (Operation op.Add (Operand (all_of 0) (Operand (Same (pos 0)) NoOperand))))
+    ∷ reached 3 0 (WhereMask (beside_all 1) (3 ∷ []) (Operation op.Gt (Operand (all_of 0) (Operand (Same (pos 1)) NoOperand))))
+    ∷ reached 3 0 (SectionAssigned true (beside_all 1) (3 ∷ []) 1 (Along from_one ∷ []) (Operation op.Div (Operand (Same (pos 1)) (Operand (all_of 0) NoOperand))))
+    ∷ reached 4 0 (ForallMask (beside_index 1) (from_one ∷ []) (Apply op.Gt (More (Index 0) (More (Number (pos 1)) NoTerm))))
+    ∷ reached 4 0 (ElementsAssigned true (beside_index 1) (from_one ∷ []) 1 (More (Index 0) NoTerm) (Element 0 (More (Index 0) NoTerm)))
     ∷ reached 5 0 Redistributed
     ∷ []
 unfolding int_wrap
@@ -57,7 +65,7 @@ up_to_fault : trail_of names (block (
     set 6 (variable B) (v A) ∷ []))
     ≡ record { line = 3; scalars = pos 0 ∷ pos 0 ∷ pos 1 ∷ pos 1 ∷ []; event = Reduced op.Sum (1 ∷ []) (Selected 1 (Along (up_to 1) ∷ [])) }
     ∷ record { line = 3; scalars = pos 0 ∷ pos 0 ∷ pos 0 ∷ pos 2 ∷ []; event = Reduced op.Sum (2 ∷ []) (Selected 1 (Along (up_to 2) ∷ [])) }
-    ∷ record { line = 5; scalars = pos 0 ∷ pos 0 ∷ pos 0 ∷ pos 3 ∷ []; event = SectionAssigned false (3 ∷ []) 0 (Along from_one ∷ []) (Operation op.Div (Operand (Same (pos 1)) (Operand (all_of 1) NoOperand))) }
+    ∷ record { line = 5; scalars = pos 0 ∷ pos 0 ∷ pos 0 ∷ pos 3 ∷ []; event = SectionAssigned false None (3 ∷ []) 0 (Along from_one ∷ []) (Operation op.Div (Operand (Same (pos 1)) (Operand (all_of 1) NoOperand))) }
     ∷ []
 unfolding int_wrap
 up_to_fault = refl
@@ -65,8 +73,8 @@ up_to_fault = refl
 -- A FORALL of an empty space reaches its parts, which have no tuples.
 -- FORALL (I=1:0, I > 1) A(I) = 1|END
 empty_forall : trail_of names (block (forall_masked 2 (axis I (n 1) (n 0) ∷ []) (gt (v I) (n 1)) (assign 2 (element_at A (v I)) (n 1) ∷ []) ∷ []))
-    ≡ reached 2 0 (ForallMask (up_to 0 ∷ []) (Apply op.Gt (More (Index 0) (More (Number (pos 1)) NoTerm))))
-    ∷ reached 2 0 (ElementsAssigned true (up_to 0 ∷ []) 0 (More (Index 0) NoTerm) (Number (pos 1)))
+    ≡ reached 2 0 (ForallMask (beside_index 0) (up_to 0 ∷ []) (Apply op.Gt (More (Index 0) (More (Number (pos 1)) NoTerm))))
+    ∷ reached 2 0 (ElementsAssigned true (beside_index 0) (up_to 0 ∷ []) 0 (More (Index 0) NoTerm) (Number (pos 1)))
     ∷ []
 unfolding int_wrap
 empty_forall = refl
@@ -81,7 +89,7 @@ refused_forall = refl
 -- FORALL (I=1:3, 1/(I-1) > 0) A(I) = 1|END
 fault_of_forall_mask : trail_of names (block (
     forall_masked 2 (axis I (n 1) (n 3) ∷ []) (gt (div (n 1) (e.Closed (sub (v I) (n 1)))) (n 0)) (assign 2 (element_at A (v I)) (n 1) ∷ []) ∷ []))
-    ≡ reached 2 0 (ForallMask (from_one ∷ []) (Apply op.Gt (More
+    ≡ reached 2 0 (ForallMask (beside_index 0) (from_one ∷ []) (Apply op.Gt (More
     (Apply op.Div (More (Number (pos 1)) (More (Apply op.Sub (More (Index 0) (More (Number (pos 1)) NoTerm))) NoTerm)))
     (More (Number (pos 0)) NoTerm)))) ∷ []
 unfolding int_wrap
@@ -113,7 +121,7 @@ items_to_fault = refl
 left_reductions_first : trail_of names (block (set 2 (variable_at A (range (call op.Sum (v B ∷ [])) (n 2) ∷ [])) (call op.Sum (v A ∷ [])) ∷ []))
     ≡ reached 2 0 (Reduced op.Sum (3 ∷ []) (all_of 1))
     ∷ reached 2 0 (Reduced op.Sum (3 ∷ []) (all_of 0))
-    ∷ reached 2 0 (SectionAssigned false (3 ∷ []) 0 (Along record { first = pos 0; step = pos 1; count = 3 } ∷ []) (Same (pos 6)))
+    ∷ reached 2 0 (SectionAssigned false None (3 ∷ []) 0 (Along record { first = pos 0; step = pos 1; count = 3 } ∷ []) (Same (pos 6)))
     ∷ []
 unfolding int_wrap
 left_reductions_first = refl
@@ -146,18 +154,41 @@ controls_once = refl
 -- A mask is one part, and each assignment one at its own line, those after ELSEWHERE too.
 -- WHERE (A > 2)|A = 1|ELSEWHERE|B = A|END WHERE|END
 where_parts : trail_of names (block (where_mask 2 (gt (v A) (n 2)) (assign 3 (variable A) (n 1) ∷ []) (assign 5 (variable B) (v A) ∷ []) ∷ []))
-    ≡ reached 2 0 (WhereMask (3 ∷ []) (Operation op.Gt (Operand (all_of 0) (Operand (Same (pos 2)) NoOperand))))
-    ∷ reached 3 0 (SectionAssigned true (3 ∷ []) 0 (Along from_one ∷ []) (Same (pos 1)))
-    ∷ reached 5 0 (SectionAssigned true (3 ∷ []) 1 (Along from_one ∷ []) (all_of 0))
+    ≡ reached 2 0 (WhereMask (beside_all 0) (3 ∷ []) (Operation op.Gt (Operand (all_of 0) (Operand (Same (pos 2)) NoOperand))))
+    ∷ reached 3 0 (SectionAssigned true (beside_all 0) (3 ∷ []) 0 (Along from_one ∷ []) (Same (pos 1)))
+    ∷ reached 5 0 (SectionAssigned true (beside_all 0) (3 ∷ []) 1 (Along from_one ∷ []) (all_of 0))
     ∷ []
 unfolding int_wrap
 where_parts = refl
 
+-- The copy of a mask lies beside what the first assignment assigns, which may stand after ELSEWHERE. Its subscripts are numbers and scalars under operators.
+abbrev beside_reversed : Option AnchorText
+beside_reversed = Some record { array = 1; subscripts = AlongTerms (Number (pos 3)) (Apply op.Neg (More (Number (pos 1)) NoTerm)) ∷ [] }
+
+-- WHERE (A > 2)|ELSEWHERE|B(3:K:-1) = A|END WHERE|END
+beside_elsewhere : trail_of names (block (
+    where_mask 2 (gt (v A) (n 2)) [] (assign 4 (variable_at B (range_by (n 3) (v K) (minus (n 1)) ∷ [])) (v A) ∷ []) ∷ []))
+    ≡ reached 2 0 (WhereMask beside_reversed (3 ∷ []) (Operation op.Gt (Operand (all_of 0) (Operand (Same (pos 2)) NoOperand))))
+    ∷ reached 4 0 (SectionAssigned true beside_reversed (3 ∷ []) 1 (Along record { first = pos 3; step = negsuc 0; count = 3 } ∷ []) (all_of 0))
+    ∷ []
+unfolding int_wrap
+beside_elsewhere = refl
+
+-- It lies beside none where a subscript isn't known before the mask is evaluated: a quotient isn't.
+-- WHERE (A > 2) B(2/2:3) = 1|END
+beside_unknown : trail_of names (block (
+    where_mask 2 (gt (v A) (n 2)) (assign 2 (variable_at B (range (div (n 2) (n 2)) (n 3) ∷ [])) (n 1) ∷ []) [] ∷ []))
+    ≡ reached 2 0 (WhereMask None (3 ∷ []) (Operation op.Gt (Operand (all_of 0) (Operand (Same (pos 2)) NoOperand))))
+    ∷ reached 2 0 (SectionAssigned true None (3 ∷ []) 1 (Along from_one ∷ []) (Same (pos 1)))
+    ∷ []
+unfolding int_wrap
+beside_unknown = refl
+
 -- An assignment that ends with a fault is reached, and what stands after ELSEWHERE then isn't.
 -- WHERE (A > 1)|A = 1 / B|ELSEWHERE|B = A|END WHERE|END
 where_to_fault : trail_of names (block (where_mask 2 (gt (v A) (n 1)) (assign 3 (variable A) (div (n 1) (v B)) ∷ []) (assign 5 (variable B) (v A) ∷ []) ∷ []))
-    ≡ reached 2 0 (WhereMask (3 ∷ []) (Operation op.Gt (Operand (all_of 0) (Operand (Same (pos 1)) NoOperand))))
-    ∷ reached 3 0 (SectionAssigned true (3 ∷ []) 0 (Along from_one ∷ []) (Operation op.Div (Operand (Same (pos 1)) (Operand (all_of 1) NoOperand))))
+    ≡ reached 2 0 (WhereMask (beside_all 0) (3 ∷ []) (Operation op.Gt (Operand (all_of 0) (Operand (Same (pos 1)) NoOperand))))
+    ∷ reached 3 0 (SectionAssigned true (beside_all 0) (3 ∷ []) 0 (Along from_one ∷ []) (Operation op.Div (Operand (Same (pos 1)) (Operand (all_of 1) NoOperand))))
     ∷ []
 unfolding int_wrap
 where_to_fault = refl
@@ -167,8 +198,8 @@ where_to_fault = refl
 parts_to_exit : trail_of names (block (
     loop 2 (axis I (n 2) (n 3)) (set 3 (variable A) (v I) ∷ at 4 s.Exit ∷ []) ∷
     set 6 (variable A) (n 1) ∷ []))
-    ≡ reached 3 2 (SectionAssigned false (3 ∷ []) 0 (Along from_one ∷ []) (Same (pos 2)))
-    ∷ reached 6 2 (SectionAssigned false (3 ∷ []) 0 (Along from_one ∷ []) (Same (pos 1)))
+    ≡ reached 3 2 (SectionAssigned false None (3 ∷ []) 0 (Along from_one ∷ []) (Same (pos 2)))
+    ∷ reached 6 2 (SectionAssigned false None (3 ∷ []) 0 (Along from_one ∷ []) (Same (pos 1)))
     ∷ []
 unfolding int_wrap
 parts_to_exit = refl

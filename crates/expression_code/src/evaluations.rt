@@ -26,6 +26,7 @@ pub fn own_evaluation(
         line,
         over: own_space(alloc, b, t)?,
         form: form_of(alloc, b, t)?,
+        beside: None,
     })
 }
 

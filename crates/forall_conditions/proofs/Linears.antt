@@ -9,7 +9,7 @@ use Rattle.resolved_program.proofs.Rows.{apply_vec}
 use Rattle.array_meaning.specs.Terms.{Apply}
 use Rattle.array_meaning.specs.State.{State}
 use Rattle.array_meaning.specs.Forall.{Linear, linear, linears, linear_by, index_free}
-use Rattle.forall_conditions.specs.declared.linear.LinearForm.{LinearForm}
+use Rattle.forall_conditions.specs.declared.linear_forms.LinearForm.{LinearForm}
 use Rattle.forall_conditions.specs.Linears.{linear_of}
 
 -- no operator of these has three operands

@@ -6,7 +6,7 @@ use Rattle.std.proofs.Math.Seq.{drop-cons}
 use Rattle.array_meaning.specs.Terms.{Terms, NoTerm, More, list_of}
 use Rattle.array_meaning.specs.State.{State}
 use Rattle.array_meaning.specs.Forall.{linear, linears, depends_on, is_one_to_one}
-use Rattle.forall_conditions.specs.declared.linear.LinearForm.{LinearForm}
+use Rattle.forall_conditions.specs.declared.linear_forms.LinearForm.{LinearForm}
 use Rattle.forall_conditions.specs.Linears.{is_covered, linear_of}
 
 any_map : (k : ℕ) (xs : List LinearForm) → list_any (λ x. depends_on k (linear_of x)) xs ≡ list_any (depends_on k) (map linear_of xs)

@@ -1,4 +1,4 @@
--- Of private clauses.
+-- Of a promise.
 -- Linear subscripts as the code has them.
 use Rattle.std.specs.Prelude.{ℕ, nat_le, Bool, ◌&&◌, ◌||◌, List, Option, Some, None}
 use Rattle.std.specs.List.{list_all, list_any}
@@ -7,7 +7,7 @@ use Rattle.array_meaning.specs.Terms.{Term}
 use Rattle.array_meaning.specs.State.{State}
 use Rattle.array_meaning.specs.declared.sections.Sequence.{Sequence}
 use Rattle.array_meaning.specs.Forall.{Linear, linear, depends_on, is_linear_in_limits, is_index_in_limits}
-use Rattle.forall_conditions.specs.declared.linear.LinearForm.{LinearForm}
+use Rattle.forall_conditions.specs.declared.linear_forms.LinearForm.{LinearForm}
 
 abbrev pub linear_of : LinearForm → Linear
 linear_of x = record { index = x.index; factor = x.factor; offset = x.offset }

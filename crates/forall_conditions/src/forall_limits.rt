@@ -10,7 +10,7 @@ ghost use Rattle.resolved_program.specs.Resolved.{element_assignment, term, term
 ghost use Rattle.term_values.specs.States.{state_of};
 ghost use Rattle.forall_conditions.specs.Linears.{are_in_limits, is_short_in_limits, linear_of};
 
-use crate::linear::{LinearForm, linear};
+use crate::linear_forms::{LinearForm, linear};
 use array_meaning::{MAX_FACTOR, MAX_INDEX_VALUE, MAX_OFFSET, MAX_TUPLES, Sequence};
 use resolved_program::{ElementAssignment, Term};
 use std::alloc::AllocError;

@@ -6,11 +6,13 @@
 //!
 //! *Proved:* Whether the indices and subscripts of a FORALL are in the limits, and whether no assignment assigns an
 //! element at two tuples, are those of the meaning: `is_forall_in_limits`, `are_subscripts_in_limits`, `is_one_to_one`.
+//! So is the linear form of a subscript: `linear`.
 #![tactic(auto)]
 
 mod forall_limits;
-mod linear;
+mod linear_forms;
 mod one_to_one;
 
 pub use forall_limits::{are_subscripts_in_limits, is_forall_in_limits};
+pub use linear_forms::{LinearForm, linear};
 pub use one_to_one::is_one_to_one;

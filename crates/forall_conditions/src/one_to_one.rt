@@ -8,7 +8,7 @@ ghost use Rattle.resolved_program.specs.Resolved.{terms_of};
 ghost use Rattle.term_values.specs.States.{state_of};
 ghost use Rattle.forall_conditions.specs.Linears.{is_covered, linear_of};
 
-use crate::linear::{LinearForm, linears};
+use crate::linear_forms::{LinearForm, linears};
 use resolved_program::Term;
 use std::alloc::AllocError;
 use term_values::State;

@@ -4,3 +4,4 @@ pub mod Goes
 pub mod Keeping
 pub mod Scatter
 pub mod Indexed
+pub mod Anchors

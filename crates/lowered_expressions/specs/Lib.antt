@@ -1,3 +1,4 @@
 pub mod WellFormed
+pub mod Anchors
 pub mod NestEvents
 pub mod Passed

@@ -9,6 +9,7 @@ use Rattle.array_meaning.specs.Faults.{Fault}
 use Rattle.array_meaning.specs.Sections.{extents}
 use Rattle.array_meaning.specs.Terms.{Term, Terms}
 use Rattle.statement_trail.specs.Trail.{Event, Trail, TrailEntry, SectionAssigned, WhereMask, Reduced, ForallMask, ElementsAssigned, OfNest, Redistributed}
+use Rattle.statement_trail.specs.Anchors.{AnchorText}
 use Rattle.statement_trail.specs.NestParts.{EnteredNest, NestPart}
 use Rattle.nest_syntax.specs.Asked.{Asked}
 use Rattle.array_meaning.specs.declared.sections.Sequence.{Sequence}
@@ -25,6 +26,7 @@ use Rattle.lowered_expressions.specs.WellFormed.{AreSubscripts, IsIndexed}
 use Rattle.node_code.specs.Instructions.{NewMapping, Instruction, Par, ParForall, ParNest, ParCopy, ParForallCopy, Reduce, Remap}
 use Rattle.code_meaning.specs.Instructions.{ArrayTable, meaning_of}
 use Rattle.program_code.specs.ExpressionCode.{index_subs, index_form}
+use Rattle.lowered_expressions.specs.Anchors.{IsBeside, IsForeknown}
 use Rattle.lowered_expressions.specs.NestEvents.{whens_for, AreStored, IsPart}
 
 -- an instruction that is passed, and the slots before it
@@ -76,23 +78,24 @@ IsMaskCopy n mask = (w : When) → mask ≡ Some w → w.copy ≡ n
 -- was evaluated once. `moves` says of a line which arrays its REDISTRIBUTE moves
 abbrev pub IsEvent : (ℕ → List NewMapping) → (n : ℕ) → Instruction → List ℤ → ℕ → Event → Type 0
 IsEvent moves n (Par p) slots line event =
-    (p.line ≡ line) × (event ≡ SectionAssigned (is_some p.mask) (extents (selections_in slots p.over)) p.array (selections_in slots p.left) (elemental_in slots p.right))
-    × IsMaskCopy n p.mask
+    (p.line ≡ line) × ((beside : Option AnchorText) × (event ≡ SectionAssigned (is_some p.mask) beside (extents (selections_in slots p.over)) p.array (selections_in slots p.left)
+    (elemental_in slots p.right)) × IsMaskCopy n p.mask × IsBeside n p.beside beside × IsForeknown beside)
 IsEvent moves n (ParCopy copy p) slots line event =
-    (p.line ≡ line) × (event ≡ WhereMask (evaluation_extents p slots) (elemental_in slots p.form)) × (copy ≡ n)
+    (p.line ≡ line) × ((beside : Option AnchorText) × (event ≡ WhereMask beside (evaluation_extents p slots) (elemental_in slots p.form)) × (copy ≡ n)
+    × IsBeside n p.beside beside × IsForeknown beside)
 IsEvent moves n (Reduce p r x) slots line event =
     (p.line ≡ line) × ((o : Op) × (event ≡ Reduced o (evaluation_extents p slots) (elemental_in slots p.form)) × (r ≡ reduction_of o))
 IsEvent moves n (ParForall p) slots line event =
-    (p.line ≡ line) × ((axes : List Sequence) × (ts : Terms) × (t : Term) × (event ≡ ElementsAssigned (is_some p.mask) axes p.array ts t)
+    (p.line ≡ line) × ((beside : Option AnchorText) × (axes : List Sequence) × (ts : Terms) × (t : Term) × (event ≡ ElementsAssigned (is_some p.mask) beside axes p.array ts t)
     × (selections_in slots p.over ≡ map Along axes) × (p.left ≡ index_subs ts) × (p.right ≡ index_form t) × IsMaskCopy n p.mask
-    × AreSubscripts n ts × IsIndexed n t)
+    × AreSubscripts n ts × IsIndexed n t × IsBeside n p.beside beside)
 IsEvent moves n (ParForallCopy copy p) slots line event =
-    (p.line ≡ line) × ((axes : List Sequence) × (t : Term) × (event ≡ ForallMask axes t) × (selections_in slots p.over ≡ map Along axes)
-    × (p.form ≡ index_form t) × (copy ≡ n) × IsIndexed n t)
+    (p.line ≡ line) × ((beside : Option AnchorText) × (axes : List Sequence) × (t : Term) × (event ≡ ForallMask beside axes t)
+    × (selections_in slots p.over ≡ map Along axes) × (p.form ≡ index_form t) × (copy ≡ n) × IsIndexed n t × IsBeside n p.beside beside)
 IsEvent moves n (ParNest p) slots line event =
     (p.line ≡ line) × ((nest : EnteredNest) × (asked : List Asked) × (part : NestPart) × (event ≡ OfNest nest asked part)
     × (selections_in slots p.over ≡ map Along nest.axes) × (p.whens ≡ whens_for n nest asked) × AreStored n nest asked
-    × IsPart n nest p part)
+    × IsPart n nest p part × IsBeside n p.beside nest.beside)
 IsEvent moves n (Remap l new) slots line event = (l ≡ line) × (event ≡ Redistributed) × (new ≡ moves line)
 IsEvent moves n i slots line event = ⊥
 

@@ -13,6 +13,7 @@
 //! - `Reach`, `Goes`: a run over code comes to a place with the slots and rows of the state that a statement leaves; or it ends, finished or
 //!   with the statement's fault.
 //! - `Scatter`, `Indexed`: the value of an array expression by the elements that it reads, and FORALL's expressions at an index tuple.
+//! - `Anchors`: what copies lie beside names what is declared, and in a WHERE no index stands in it.
 //!
 //! *Proved:* Nothing by contracts. In `proofs/`, as lemmas: over the code of an expression the machine with whole
 //! arrays comes to what leaves its value.

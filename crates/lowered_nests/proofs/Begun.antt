@@ -25,8 +25,10 @@ use Rattle.code_meaning.specs.Forms.{selections_in}
 use Rattle.node_code.specs.Instructions.{Instruction, NewMapping}
 use Rattle.code_meaning.specs.Instructions.{ArrayTable}
 use Rattle.code_meaning.specs.NestStatements.{iterations_at, copies_extents}
+use Rattle.code_meaning.specs.Anchors.{anchor_in}
 use Rattle.nest_syntax.specs.NestKinds.{Kind, Shared, has_copies}
 use Rattle.nest_order.specs.Copies.{scalar_at, entry_copies, with_copies}
+use Rattle.lowered_expressions.specs.Anchors.{IsAnchorText}
 use Rattle.lowered_expressions.proofs.Reach.{Idle}
 use Rattle.nest_items.specs.StateStorage.{storage_of}
 use Rattle.nest_items.specs.Standing.{AreKinds}
@@ -46,7 +48,7 @@ use Rattle.nest_machine.specs.Placed.{PlacedTexts}
 use Rattle.nest_machine.specs.PlacedEnds.{IsPlacedFinal}
 use Rattle.nest_machine.proofs.PlacedCopies.{row-each}
 use Rattle.nest_join.specs.NestBodies.{nest_layout}
-use Rattle.statement_trail.specs.NestParts.{index_in}
+use Rattle.statement_trail.specs.NestParts.{index_in, nest_anchor}
 use Rattle.nest_join.specs.NestNames.{NestNames}
 use Rattle.nest_join.specs.NestTexts.{NestAction, assignment_text, text_of, test_of, texts_of, HoldsEntry}
 use Rattle.nest_join.specs.CodedBlocks.{IsCodedBlock, coded}
@@ -55,7 +57,7 @@ use Rattle.nest_join.specs.NestRuns.{NestCode, machine_body, HoldsRows, HasFinal
 use Rattle.nest_join.proofs.RowPlaces.{condition-place, condition-row, marks-off, copies-after, marks-after, not-among}
 use Rattle.nest_join.proofs.MadeRows.{names-unmade}
 use Rattle.nest_join.proofs.ListedFinals.{has-final}
-use Rattle.program_code.specs.NestCode.{plain, text_in, test_in, scalars, conditions, kinds_in, stored, finals, along}
+use Rattle.program_code.specs.NestCode.{nest_beside, plain, text_in, test_in, scalars, conditions, kinds_in, stored, finals, along}
 use Rattle.lowered_nests.specs.NamesIn.{names_in}
 use Rattle.lowered_nests.proofs.NestRuns.{HasCopies, NestStands}
 use Rattle.lowered_nests.proofs.PlainCode.{same-count}
@@ -63,6 +65,7 @@ use Rattle.lowered_nests.proofs.OneKind.{one-kind}
 use Rattle.lowered_nests.proofs.Listed.{and-off, in-some, in-none}
 use Rattle.lowered_nests.proofs.FreeIndices.{IsBody, nest-body}
 use Rattle.lowered_nests.proofs.CodedTexts.{same-block}
+use Rattle.lowered_nests.proofs.NestAnchors.{nest-anchored}
 use Rattle.lowered_nests.proofs.CodedBody.{are-scalars, of-scalars, array-row, block-coded}
 use Rattle.lowered_nests.proofs.Standing.{same-along, these-indices, these-many}
 use Rattle.lowered_nests.proofs.Counted.{count-of}
@@ -123,6 +126,9 @@ module _ (table : ArrayTable) (row_count : ℕ) (moves : ℕ → List NewMapping
 
   pub ok : IsCodedBlock w s [] body
   ok = block-coded table n nest body over all s h.fits.scalars formed.quiet inside.named inside.free [] inside.are body inside.keeps inside.named h.form.texts
+
+  pub anchored : IsAnchorText n (nest_anchor nest body)
+  anchored = nest-anchored n all nest body inside.named h.form.texts
 
   pub count-is : count_body (machine_body w c s body ok) ≡ conds
   count-is = count-of (coded w s [] body ok)
@@ -224,12 +230,12 @@ module _ (table : ArrayTable) (row_count : ℕ) (moves : ℕ → List NewMapping
           let z : None ≡ Some q = subst (λ x. (assignment_text w a.action.line a.action.copies x).mark ≡ Some q) is e in absurd cc
 
   abbrev Fit : ℕ → Type 0
-  Fit m = PlacedTexts (texts_of w) (iterations_at over) (nest_layout table over) (stored n nest body) n m w.place w.is_row is_index (whole.copies kinds nest s start) N b slots
+  Fit m = PlacedTexts (texts_of w) (iterations_at over) (nest_layout table over (nest_beside nest body)) (stored n nest body) n m w.place w.is_row is_index (whole.copies kinds nest s start) N b slots
 
   pub texts-fit : Fit (count_body (machine_body w c s body ok))
   texts-fit = subst Fit (sym count-is) (record {
     sized = λ s' same. these-many over (nest_axes s nest) s' (gives s' same) limit;
-    laid = λ layouts s' same. lie.sized layouts None (copies_extents over s') ∙ these-many over (nest_axes s nest) s' (gives s' same) limit;
+    laid = λ layouts s' same. lie.sized layouts (anchor_in s' over (nest_beside nest body)) (copies_extents over s') ∙ these-many over (nest_axes s nest) s' (gives s' same) limit;
     conditions = λ k lt. (condition-place n ks conds are k, condition-row n ks conds are k lt, condition-long k lt);
     marks = off-marks;
   })

@@ -1,9 +1,6 @@
 -- The innermost block of a nest by its form is one that has code.
 use Rattle.std.proofs.Common.{◌≡◌, ℕ, ◌<◌, nat_eq, nat_lt, arith, if◌then◌else◌, inl, inr, List, [], ◌∷◌, Bool, true, false, true≢false, not, Option, Some, None, FitsSigned, w64, refl, sym, ap, ap₂, ◌∙◌, subst}
 use Rattle.std.specs.Prelude.{◌&&◌}
-use Rattle.op_tables.specs.declared.op.Op.{Op}
-use Rattle.op_tables.specs.declared.op.Op.TheVariants as op
-use Rattle.op_tables.specs.Operators.{can_divide}
 use Rattle.nest_syntax.specs.NestKinds.{Kind, has_copies}
 use Rattle.array_meaning.specs.Terms.{Term, Number, Scalar, Index, Element, Section, Apply, Reduce, Terms, NoTerm, More}
 use Rattle.array_meaning.specs.State.{State, scalar}
@@ -13,10 +10,11 @@ use Rattle.array_meaning.specs.Touches.{assigned_in, assigned_by, assigned_in_ar
 use Rattle.node_code.specs.Forms.{Sub}
 use Rattle.code_meaning.specs.Instructions.{ArrayTable}
 use Rattle.lowered_expressions.specs.WellFormed.{IsScalar, AreScalar, IsSubscript, AreSubscripts, IsIndexed, AreIndexed, IsWellFormed, IsWellFormedBlock, AreWellFormedArms}
+use Rattle.lowered_expressions.proofs.Anchors.{linear-safe}
 use Rattle.nest_items.specs.Naming.{IsNaming, AreNaming}
 use Rattle.nest_items.specs.Settled.{without}
 use Rattle.nest_items.specs.Standing.{Stands}
-use Rattle.nest_items.specs.NestForm.{is_linear_operator, IsExact, AreExact, IsPlain, ArePlain, NamesNone, TextsKeep, TextKeeps, ArmsTextsKeep, BlockKeeps, StatementKeeps, ArmsKeep}
+use Rattle.nest_items.specs.NestForm.{IsExact, AreExact, IsPlain, ArePlain, NamesNone, TextsKeep, TextKeeps, ArmsTextsKeep, BlockKeeps, StatementKeeps, ArmsKeep}
 use Rattle.nest_items.proofs.FormStands.{block_stands}
 use Rattle.nest_items.proofs.NameKinds.{copies_of_kind}
 use Rattle.statement_trail.specs.NestParts.{index_in, scalars_in}
@@ -34,14 +32,6 @@ use Rattle.lowered_nests.proofs.TextTerms.{text-term, text-subscripts}
 
 -- ---- bounds and subscripts
 
-pub no-division : (o : Op) → is_linear_operator o ≡ true → can_divide o ≡ false
-no-division op.Neg h = refl
-no-division op.Plus h = refl
-no-division op.Add h = refl
-no-division op.Sub h = refl
-no-division op.Mul h = refl
-no-division o h = absurd (true≢false (sym h))
-
 mutual
   exact-subscript : (n : ℕ) (t : Term) → IsExact t → IsScalar n t → IsSubscript n t
   exact-subscript n (Number v) h ok = tt
@@ -49,7 +39,7 @@ mutual
   exact-subscript n (Index k) h ok = tt
   exact-subscript n (Element a ts) h ok = absurd h
   exact-subscript n (Section a subs) h ok = absurd h
-  exact-subscript n (Apply o ts) h ok = (no-division o h.0, exact-subscripts n ts h.1 ok)
+  exact-subscript n (Apply o ts) h ok = (linear-safe o h.0, exact-subscripts n ts h.1 ok)
   exact-subscript n (Reduce o t) h ok = absurd h
 
   exact-subscripts : (n : ℕ) (ts : Terms) → AreExact ts → AreScalar n ts → AreSubscripts n ts

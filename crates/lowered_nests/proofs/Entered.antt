@@ -1,5 +1,5 @@
 -- A nest that stands is begun: it is entered, and its storage lies among the machine's rows.
-use Rattle.std.proofs.Common.{◌≡◌, ℕ, ◌+◌, ◌-◌, ◌<◌, ◌≤◌, ◌⊎◌, inl, inr, nat_lt, List, [], ◌∷◌, length, replicate, ℤ, Bool, true, false, Some, None, if◌then◌else◌, refl, sym, ap, ap₂, ◌∙◌, subst, arith}
+use Rattle.std.proofs.Common.{◌≡◌, ℕ, ◌+◌, ◌-◌, ◌<◌, ◌≤◌, ◌⊎◌, inl, inr, nat_lt, List, [], ◌∷◌, length, replicate, ℤ, Bool, true, false, Some, if◌then◌else◌, refl, sym, ap, ap₂, ◌∙◌, subst, arith}
 use Rattle.std.specs.List.{Contains}
 use Rattle.std.proofs.lemmas.Bool.Decides.{nat_tests}
 use Rattle.op_tables.specs.Joins.{unit}
@@ -13,21 +13,24 @@ use Rattle.node_code.specs.Forms.{Sub}
 use Rattle.node_code.specs.Instructions.{Instruction, NewMapping}
 use Rattle.code_meaning.specs.Instructions.{ArrayTable}
 use Rattle.code_meaning.specs.NestStatements.{copies_extents}
+use Rattle.code_meaning.specs.Anchors.{anchor_in}
 use Rattle.nest_syntax.specs.NestKinds.{Kind, Shared, New, Assigned, Reduced, has_copies}
 use Rattle.nest_order.specs.Copies.{entry_copies}
 use Rattle.nest_order.proofs.Copying.{shared_of}
+use Rattle.lowered_expressions.specs.Anchors.{IsAnchorText}
+use Rattle.lowered_expressions.proofs.Anchors.{anchor-below}
 use Rattle.lowered_expressions.proofs.Reach.{Idle}
 use Rattle.nest_items.proofs.Storing.{if_so, if_not, by_cases}
 use Rattle.nest_machine.specs.Trace.{Data}
 use Rattle.nest_machine.specs.Entries.{Entry, at_zero, final_entries, nest_entries, NotMade}
 use Rattle.nest_machine.specs.PlacedEntry.{IsPlacedMemory}
 use Rattle.nest_join.specs.NestBodies.{nest_layout}
-use Rattle.statement_trail.specs.NestParts.{index_in}
+use Rattle.statement_trail.specs.NestParts.{index_in, nest_anchor}
 use Rattle.nest_join.specs.NestNames.{NestNames}
 use Rattle.program_code.specs.Places.{AreScalars, place_by, final_by}
 use Rattle.nest_join.proofs.RowPlaces.{condition-place}
 use Rattle.nest_join.proofs.MadeRows.{made-rows, names-unmade}
-use Rattle.program_code.specs.NestCode.{scalars, conditions, kinds_in, stored, finals, along}
+use Rattle.program_code.specs.NestCode.{nest_beside, scalars, conditions, kinds_in, stored, finals, along}
 use Rattle.lowered_nests.proofs.NestRuns.{HasCopies, NestStands}
 use Rattle.lowered_nests.proofs.CodedBody.{array-row}
 use Rattle.lowered_nests.proofs.Standing.{below-of, entries-below, condition-made, final-made}
@@ -149,13 +152,17 @@ module _ (table : ArrayTable) (row_count : ℕ) (moves : ℕ → List NewMapping
           let same : n + (r - n) ≡ r = omega (arith, le) in
           subst Made same (condition-row (r - n) (omega (arith, le, small)))
 
-  pub memory : (i : Idle row_count) → IsPlacedMemory (nest_layout table over) slots w.place w.is_row kinds N start es (d i)
+  anchored : IsAnchorText n (nest_anchor nest body)
+  anchored = begun.anchored table row_count moves code n many lie line pc v nest loop block body s slots rows h some
+
+  pub memory : (i : Idle row_count) → IsPlacedMemory (nest_layout table over (nest_beside nest body)) slots w.place w.is_row kinds N start es (d i)
   memory i = record {
     apart = made-rows n ks conds kinds;
     as_many = i.laid ∙ sym h.holds.more_rows;
     few = λ e has. let z = below-of (n + (length ks + conds + length ks)) es e (entries-below n ks conds kinds) has in
         let y = h.room in let x = h.holds.more_rows in omega (arith, z, y, x);
-    steady = λ layouts same. lie.steady layouts i.layouts None (copies_extents over slots) (λ r lt. same r (names-unmade n ks conds kinds r lt)) tt;
+    steady = λ layouts same. lie.steady layouts i.layouts (anchor_in slots over (nest_beside nest body)) (copies_extents over slots)
+        (λ r lt. same r (names-unmade n ks conds kinds r lt)) (anchor-below n slots over (nest_anchor nest body) anchored);
     inside = λ r of_row. (let z = begun.start-long table row_count moves code n many lie line pc v nest loop block body s slots rows h some in
         let small : r < n + conds = grind (arith, nat_tests, of_row) in omega (arith, z, small));
     rows = every-row;

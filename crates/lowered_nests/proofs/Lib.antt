@@ -7,6 +7,7 @@ mod FreeIndices
 pub mod PlainCode
 mod CodedTexts
 pub mod CodedBody
+pub mod NestAnchors
 mod ManyActs
 mod Standing
 mod Counted

@@ -12,7 +12,7 @@ use Rattle.array_meaning.specs.State.{State, scalar, set_scalar}
 use Rattle.array_meaning.specs.Terms.{Term, Number, Scalar, Index, Element, Section, Apply, Reduce, Terms, NoTerm, More}
 use Rattle.array_meaning.specs.Statements.{Loop, Nest, Block, Done, Then, Statement, AssignScalar, AssignElement, AssignSection, If, Do, Unmarked, Outermost, Where, Forall, Print, Stop, Exit, Cycle, Continue, Redistribute, Arms, NoArm, Arm}
 use Rattle.array_meaning.specs.Iterations.{is_in, values_of, nest_axes, nest_indices, turn_value, in_turns}
-use Rattle.statement_trail.specs.NestParts.{EnteredNest, NestPart, ScalarPart, ElementPart, ConditionPart, index_in, of_these, scalars_in, has_statement, conditions_in, conditions_by, conditions_in_arms, scalar_copy, condition_copy, in_trip, indices_after, indices_by}
+use Rattle.statement_trail.specs.NestParts.{EnteredNest, NestPart, ScalarPart, ElementPart, ConditionPart, index_in, of_these, scalars_in, has_statement, conditions_in, conditions_by, conditions_in_arms, scalar_copy, condition_copy, in_trip, indices_after, indices_by, nest_anchor}
 use Rattle.nest_syntax.specs.Asked.{Asked, guard_asked, none_asked, tested_asked}
 use Rattle.statement_trail.specs.Trail.{Trail, OfNest, reached, block_parts, statement_parts, arms_parts}
 use Rattle.node_code.specs.declared.nest.NestRole.{NestRole}
@@ -20,6 +20,7 @@ use Rattle.node_code.specs.declared.nest.NestRole.TheVariants.{Assigns, Tests}
 use Rattle.node_code.specs.Flat.{Int}
 use Rattle.code_meaning.specs.Flat.{slot}
 use Rattle.node_code.specs.Forms.{Sub}
+use Rattle.node_code.specs.Anchors.{FlatAnchor}
 use Rattle.code_meaning.specs.Forms.{selections_in}
 use Rattle.node_code.specs.Parallel.{When}
 use Rattle.node_code.specs.NestStatements.{NestStatement, NestLeft, ElementLeft, CopyLeft}
@@ -28,6 +29,7 @@ use Rattle.code_meaning.specs.Instructions.{ArrayTable}
 use Rattle.nest_syntax.specs.NestTerms.{all_indexed, indexed, NamesFirst, AllNameFirst, SubscriptsFirst, HasNoIndex, HaveNoIndex}
 use Rattle.program_code.specs.ExpressionCode.{index_subs, index_form}
 use Rattle.lowered_expressions.specs.WellFormed.{IsIndexed}
+use Rattle.lowered_expressions.specs.Anchors.{IsAnchorText}
 use Rattle.lowered_expressions.specs.NestEvents.{whens_for, AreStored, IsPart, Evaluates}
 use Rattle.lowered_expressions.specs.Passed.{unless_mark, IsTrail, IsEvent}
 use Rattle.lowered_expressions.proofs.Reach.{HasAt, has-front, has-back}
@@ -51,7 +53,7 @@ use Rattle.nest_join.proofs.HiddenIndices.{hidden-is}
 use Rattle.nest_join.proofs.Bounds.{step-flat, step-some}
 use Rattle.nest_join.proofs.LoopTurns.{P, values-are, count-is, turns, left-index}
 use Rattle.nest_join.proofs.SameItems.{takes}
-use Rattle.program_code.specs.NestCode.{scalars, conditions, stored, place_in}
+use Rattle.program_code.specs.NestCode.{nest_beside, scalars, conditions, stored, place_in}
 use Rattle.lowered_nests.specs.NamesIn.{names_in}
 use Rattle.lowered_nests.proofs.CodeLies.{safe-block}
 use Rattle.lowered_nests.proofs.Listed.{in-some, once-in, these-in}
@@ -97,12 +99,16 @@ mutual
 module _ (table : ArrayTable) (moves : ℕ → List NewMapping) (code : List Instruction) (last line n : ℕ) (nest : Nest) (body : Block) (over : List Sub) (is_index : ℕ → Bool) (b0 count : ℕ)
     (entry : List ℤ) (s0 : State) (holds : HoldsEntry (names_in table n nest body over is_index) b0 entry s0) (outside : (x : ℕ) → b0 ≤ x → is_index x ≡ false)
     (assigned : (k : ℕ) → has_copies ((names_in table n nest body over is_index).kinds k) ≡ true → is_in k (scalars n nest body) ≡ true)
-    (tuples : (slots : List ℤ) → SameSlots is_index b0 entry slots → selections_in slots over ≡ map Along (nest_axes s0 nest)) where
+    (tuples : (slots : List ℤ) → SameSlots is_index b0 entry slots → selections_in slots over ≡ map Along (nest_axes s0 nest))
+    (anchored : IsAnchorText n (nest_anchor nest body)) where
   abbrev w : NestNames
   w = names_in table n nest body over is_index
 
   abbrev pub N : EnteredNest
-  N = record { indices = nest_indices nest; axes = nest_axes s0 nest; assigned = scalars n nest body; conditions = count }
+  N = record { indices = nest_indices nest; axes = nest_axes s0 nest; assigned = scalars n nest body; conditions = count; beside = nest_anchor nest body }
+
+  abbrev beside : Option FlatAnchor
+  beside = nest_beside nest body
 
   abbrev counting : Counting Fault
   counting = counting_at line
@@ -114,10 +120,10 @@ module _ (table : ArrayTable) (moves : ℕ → List NewMapping) (code : List Ins
   from_row = stored n nest body
 
   abbrev Is : CodedBody w → Option ℕ → (k b pc : ℕ) → List Instruction
-  Is = body_instructions line over (text_of w) (test_of w) from_row
+  Is = body_instructions line over beside (text_of w) (test_of w) from_row
 
   abbrev ArmsIs : CodedArms w → Option ℕ → List ℕ → (k b pc : ℕ) → List Instruction
-  ArmsIs = arms_instructions line over (text_of w) (test_of w) from_row
+  ArmsIs = arms_instructions line over beside (text_of w) (test_of w) from_row
 
   abbrev After : CodedBody w → ℕ → List ℤ → List ℤ
   After x = slots_after counting (body_of x)
@@ -174,16 +180,16 @@ module _ (table : ArrayTable) (moves : ℕ → List NewMapping) (code : List Ins
 
   -- a statement that is noted is passed
   part-passes : (p : NestStatement) (pc : ℕ) (s : List ℤ) (st : State) (l : ℕ) (asked : List Asked) (part : NestPart) → slice_get code pc ≡ Some (ParNest p) → pc < last → Held st s
-      → unless_mark p.role (record { instruction = ParNest p; slots = s }) ≡ record { instruction = ParNest p; slots = s } ∷ [] → p.line ≡ l → p.over ≡ over
+      → unless_mark p.role (record { instruction = ParNest p; slots = s }) ≡ record { instruction = ParNest p; slots = s } ∷ [] → p.line ≡ l → p.over ≡ over → p.beside ≡ beside
       → p.whens ≡ whens_for n N asked → AreStored n N asked → IsPart n N p part → Go (reached l st (OfNest N asked part)) pc s (pc + 1) s
-  part-passes p pc s st l asked part has lt held noted at_line is_over whens stored_are is =
+  part-passes p pc s st l asked part has lt held noted at_line is_over is_beside whens stored_are is =
       passes-one table moves code last (reached l st (OfNest N asked part)) pc (pc + 1) s s (ParNest p) has lt (λ r. refl)
       (subst (λ ps. IsTrail moves ps (reached l st (OfNest N asked part))) (sym noted) (
         record {
           scalars = λ k less. held.scalars k (let e = held.long in omega (arith, e, less));
           event = subst (λ m. IsEvent moves m (ParNest p) s l (OfNest N asked part)) (sym held.long) (
             at_line,
-            (N, asked, part, refl, ap (selections_in s) is_over ∙ tuples s held.same, whens, stored_are, is),
+            (N, asked, part, refl, ap (selections_in s) is_over ∙ tuples s held.same, whens, stored_are, is, (is_beside, anchored)),
           );
         },
         tt,
@@ -198,6 +204,7 @@ module _ (table : ArrayTable) (moves : ℕ → List NewMapping) (code : List Ins
     left = left;
     right = index_form (indexed (index_of w (w.copied_in t)) t);
     role = role;
+    beside = beside;
   }) t
   text-evaluates round t l whens left role ok = record { names = refl; copies = copies-are t; right = refl; form = ok.form; first = ok.first }
 
@@ -429,15 +436,15 @@ module _ (table : ArrayTable) (moves : ℕ → List NewMapping) (code : List Ins
   IsTest c l o = ⊥
 
   test-passes : (c : Option (NestCondition w)) (l : ℕ) (o : Option Term) → IsTest c l o → (guard : Option ℕ) (earlier : List ℕ) (k pc : ℕ) (s : List ℤ) (st : State)
-      → slice_get code pc ≡ Some (test_instruction line over (text_of w) (test_of w) from_row (tested_asked guard earlier) c (from_row + k)) → pc < last → Held st s → IsGuard guard → AreEarlier earlier
+      → slice_get code pc ≡ Some (test_instruction line over beside (text_of w) (test_of w) from_row (tested_asked guard earlier) c (from_row + k)) → pc < last → Held st s → IsGuard guard → AreEarlier earlier
       → k < count → Go (reached l st (OfNest N (tested_asked guard earlier) (ConditionPart k o))) pc s (pc + 1) s
   test-passes None l None is guard earlier k pc s st has lt held guards are_earlier less =
-      part-passes (setting_else over (whens_of from_row (tested_asked guard earlier)) (from_row + k)) pc s st l (tested_asked guard earlier) (ConditionPart k None) has lt held refl (sym is) refl
+      part-passes (setting_else over beside (whens_of from_row (tested_asked guard earlier)) (from_row + k)) pc s st l (tested_asked guard earlier) (ConditionPart k None) has lt held refl (sym is) refl refl
       (whens-are (tested_asked guard earlier)) (arm-stored guard earlier guards are_earlier) (less, refl, ap CopyLeft (when-row k), refl, refl, refl)
   test-passes None l (Some t) is guard earlier k pc s st has lt held guards are_earlier less = absurd is
   test-passes (Some c) l None is guard earlier k pc s st has lt held guards are_earlier less = absurd is
   test-passes (Some c) l (Some t) is guard earlier k pc s st has lt held guards are_earlier less =
-      part-passes (testing over (whens_of from_row (tested_asked guard earlier)) (test_of w c) (from_row + k)) pc s st l (tested_asked guard earlier) (ConditionPart k (Some t)) has lt held refl is.0 refl
+      part-passes (testing over beside (whens_of from_row (tested_asked guard earlier)) (test_of w c) (from_row + k)) pc s st l (tested_asked guard earlier) (ConditionPart k (Some t)) has lt held refl is.0 refl refl
       (whens-are (tested_asked guard earlier)) (arm-stored guard earlier guards are_earlier) (
         less,
         refl,
@@ -456,6 +463,7 @@ module _ (table : ArrayTable) (moves : ℕ → List NewMapping) (code : List Ins
             left = left;
             right = index_form (indexed (index_of w copies) u);
             role = role;
+            beside = beside;
           }) t
       condition-evaluates round t u copies e f l whens left role ok = record {
         names = f;
@@ -467,34 +475,34 @@ module _ (table : ArrayTable) (moves : ℕ → List NewMapping) (code : List Ins
 
   -- a condition is made anew, and then it is stored
   head-passes : (c : Option (NestCondition w)) (l : ℕ) (o : Option Term) → IsTest c l o → (guard : Option ℕ) (earlier : List ℕ) (k pc : ℕ) (s : List ℤ) (st : State) (rest : List Instruction)
-      → HasAt code pc (MakeCopies (from_row + k) over (Int (pos 0)) ∷ test_instruction line over (text_of w) (test_of w) from_row (tested_asked guard earlier) c (from_row + k) ∷ rest) → pc + 2 ≤ last
+      → HasAt code pc (MakeCopies (from_row + k) over (Int (pos 0)) beside ∷ test_instruction line over beside (text_of w) (test_of w) from_row (tested_asked guard earlier) c (from_row + k) ∷ rest) → pc + 2 ≤ last
       → Held st s → IsGuard guard → AreEarlier earlier → k < count → Go (reached l st (OfNest N (tested_asked guard earlier) (ConditionPart k o))) pc s (pc + 2) s
   head-passes c l o is guard earlier k pc s st rest has under held guards are_earlier less =
       let T = reached l st (OfNest N (tested_asked guard earlier) (ConditionPart k o)) in
       let e : pc + 1 + 1 ≡ pc + 2 = omega arith in
       passes-on table moves code last [] T pc (pc + 1) (pc + 2) s s s
-      (passes-one table moves code last [] pc (pc + 1) s s (MakeCopies (from_row + k) over (Int (pos 0))) has.0 (omega (arith, under)) (λ r. refl) tt)
+      (passes-one table moves code last [] pc (pc + 1) s s (MakeCopies (from_row + k) over (Int (pos 0)) beside) has.0 (omega (arith, under)) (λ r. refl) tt)
       (passes-at table moves code last T (pc + 1) (pc + 1 + 1) (pc + 2) s s e (test-passes c l o is guard earlier k (pc + 1) s st has.1.0 (omega (arith, under)) held guards are_earlier less))
 
   -- ---- statements
 
-  mark-passes : (guard o : Option ℕ) (pc : ℕ) (s : List ℤ) → HasAt code pc (mark_instructions line over (text_of w) (test_of w) from_row guard o)
-      → pc + length (mark_instructions line over (text_of w) (test_of w) from_row guard o) ≤ last
-      → Go [] pc s (pc + length (mark_instructions line over (text_of w) (test_of w) from_row guard o)) s
+  mark-passes : (guard o : Option ℕ) (pc : ℕ) (s : List ℤ) → HasAt code pc (mark_instructions line over beside (text_of w) (test_of w) from_row guard o)
+      → pc + length (mark_instructions line over beside (text_of w) (test_of w) from_row guard o) ≤ last
+      → Go [] pc s (pc + length (mark_instructions line over beside (text_of w) (test_of w) from_row guard o)) s
   mark-passes guard None pc s has under = let e : pc ≡ pc + 0 = omega arith in passes-at table moves code last [] pc pc (pc + 0) s s e (passes-none table moves code last pc s)
   mark-passes guard (Some r) pc s has under =
-      passes-one table moves code last [] pc (pc + 1) s s (ParNest (setting_mark over (whens_of from_row (guard_asked guard)) r)) has.0 (omega (arith, under)) (λ x. refl) tt
+      passes-one table moves code last [] pc (pc + 1) s s (ParNest (setting_mark over beside (whens_of from_row (guard_asked guard)) r)) has.0 (omega (arith, under)) (λ x. refl) tt
 
   text-passes : (a : NestAction w) (guard : Option ℕ) (pc : ℕ) (s : List ℤ) (st : State) (l : ℕ) (part : NestPart)
-      → HasAt code pc (text_instructions line over (text_of w) (test_of w) from_row guard a) → pc + length (text_instructions line over (text_of w) (test_of w) from_row guard a) ≤ last
-      → Held st s → IsGuard guard → (text_of w a).line ≡ l → IsPart n N (assigning over (whens_of from_row (guard_asked guard)) (text_of w a)) part
-      → Go (reached l st (OfNest N (guard_asked guard) part)) pc s (pc + length (text_instructions line over (text_of w) (test_of w) from_row guard a)) s
+      → HasAt code pc (text_instructions line over beside (text_of w) (test_of w) from_row guard a) → pc + length (text_instructions line over beside (text_of w) (test_of w) from_row guard a) ≤ last
+      → Held st s → IsGuard guard → (text_of w a).line ≡ l → IsPart n N (assigning over beside (whens_of from_row (guard_asked guard)) (text_of w a)) part
+      → Go (reached l st (OfNest N (guard_asked guard) part)) pc s (pc + length (text_instructions line over beside (text_of w) (test_of w) from_row guard a)) s
   text-passes a guard pc s st l part has under held guards at_line is =
       let T = reached l st (OfNest N (guard_asked guard) part) in
-      let m = mark_instructions line over (text_of w) (test_of w) from_row guard (text_of w a).mark in
+      let m = mark_instructions line over beside (text_of w) (test_of w) from_row guard (text_of w a).mark in
       let e : pc + 1 + length m ≡ pc + suc (length m) = omega arith in
       passes-last table moves code last T pc (pc + 1) (pc + suc (length m)) s s s
-      (part-passes (assigning over (whens_of from_row (guard_asked guard)) (text_of w a)) pc s st l (guard_asked guard) part has.0 (omega (arith, under)) held refl at_line refl
+      (part-passes (assigning over beside (whens_of from_row (guard_asked guard)) (text_of w a)) pc s st l (guard_asked guard) part has.0 (omega (arith, under)) held refl at_line refl refl
       (whens-are (guard_asked guard)) (guard-stored guard guards) is)
       (passes-at table moves code last [] (pc + 1) (pc + 1 + length m) (pc + suc (length m)) s s e (mark-passes guard (text_of w a).mark (pc + 1) s has.1 (omega (arith, under))))
 
@@ -590,7 +598,7 @@ module _ (table : ArrayTable) (moves : ℕ → List NewMapping) (code : List Ins
         (pc + length (Is (coded_in w s0 l round statement ok rest) guard k b pc)) (After (coded_in w s0 l round statement ok rest) b s) (later (indices_by statement st))
     statement-passes l round (AssignScalar x t) ok rest U later guard k b pc s st le held guards few enough has under next =
         let a : NestAction w = record { action = record { line = l; text = ToScalar x t; round = round; copies = w.copied_in t }; named = ok } in
-        let c = text_instructions line over (text_of w) (test_of w) from_row guard a in
+        let c = text_instructions line over beside (text_of w) (test_of w) from_row guard a in
         let r = Is rest guard k b (pc + length c) in
         let len : length (c ++ r) ≡ length c + length r = length-append c r in
         let T = reached l st (OfNest N (guard_asked guard) (ScalarPart x t)) in
@@ -603,7 +611,7 @@ module _ (table : ArrayTable) (moves : ℕ → List NewMapping) (code : List Ins
         has under (λ h u. next k (pc + length c) s st held few enough h u))
     statement-passes l round (AssignElement y ts t) ok rest U later guard k b pc s st le held guards few enough has under next =
         let a : NestAction w = record { action = record { line = l; text = ToElement y ts t; round = round; copies = w.copied_in t }; named = ok } in
-        let c = text_instructions line over (text_of w) (test_of w) from_row guard a in
+        let c = text_instructions line over beside (text_of w) (test_of w) from_row guard a in
         let r = Is rest guard k b (pc + length c) in
         let len : length (c ++ r) ≡ length c + length r = length-append c r in
         let T = reached l st (OfNest N (guard_asked guard) (ElementPart y ts t)) in

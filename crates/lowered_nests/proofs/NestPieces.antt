@@ -4,7 +4,7 @@ use Rattle.array_meaning.specs.Statements.{Loop, Nest, Block}
 use Rattle.node_code.specs.Instructions.{Instruction}
 use Rattle.lowered_expressions.proofs.Reach.{HasAt, has-front, has-back}
 use Rattle.program_code.specs.NestInstructions.{nest_instructions}
-use Rattle.program_code.specs.NestCode.{plain, text_in, test_in, stored, finals, along, inner_bounds, trips_code, indices_code, nest_code}
+use Rattle.program_code.specs.NestCode.{nest_beside, plain, text_in, test_in, stored, finals, along, inner_bounds, trips_code, indices_code, nest_code}
 
 trips-length : (line v target : ℕ) (ls : List Loop) → length (trips_code line v target ls) ≡ length ls
 trips-length line v target [] = refl
@@ -25,7 +25,7 @@ module _ (n line : ℕ) (nest : Nest) (body : Block) (v pc : ℕ) where
   at_statements = pc + length (inner_bounds line v nest.loops) + length nest.loops
 
   abbrev pub statements : List Instruction
-  statements = nest_instructions line (along v nest.loops) (text_in n nest body) (test_in n nest body) (stored n nest body) (finals n nest body) (plain body) (v + 4 * length nest.loops) at_statements
+  statements = nest_instructions line (along v nest.loops) (nest_beside nest body) (text_in n nest body) (test_in n nest body) (stored n nest body) (finals n nest body) (plain body) (v + 4 * length nest.loops) at_statements
 
   abbrev pub at_indices : ℕ
   at_indices = at_statements + length statements

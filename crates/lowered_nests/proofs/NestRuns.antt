@@ -27,7 +27,7 @@ use Rattle.nest_items.specs.Settled.{SameIn, settled_by}
 use Rattle.program_code.specs.NestInstructions.{nest_instructions, slots_of_nest}
 use Rattle.statement_trail.specs.NestParts.{index_in}
 use Rattle.fitting_states.specs.FittingStates.{StateFits, ControlFits}
-use Rattle.program_code.specs.NestCode.{plain, text_in, test_in, stored, finals, along, nest_rows}
+use Rattle.program_code.specs.NestCode.{nest_beside, plain, text_in, test_in, stored, finals, along, nest_rows}
 
 -- how copies lie: with an element for each position, however the rows lie. Where what is assigned is an element of one of n declared arrays, whose
 -- rows are the first, or isn't said, they lie by how these rows lie alone
@@ -39,7 +39,7 @@ pub record HasCopies (table : ArrayTable) (n : ℕ) : Type 0 where
 -- the place after the statements of the nest of a line at a place
 abbrev pub place_after : (n line pc v : ℕ) → Nest → Block → ℕ
 place_after n line pc v nest body =
-    pc + length (nest_instructions line (along v nest.loops) (text_in n nest body) (test_in n nest body) (stored n nest body) (finals n nest body) (plain body) (v + 4 * length nest.loops) pc)
+    pc + length (nest_instructions line (along v nest.loops) (nest_beside nest body) (text_in n nest body) (test_in n nest body) (stored n nest body) (finals n nest body) (plain body) (v + 4 * length nest.loops) pc)
 
 module _ (table : ArrayTable) (row_count : ℕ) (moves : ℕ → List NewMapping) (code : List Instruction) (n many : ℕ) where
   -- the statements of the nest of a line stand at a place, and the bounds of its loops are in the slots from v on; the inner loops of its
@@ -58,7 +58,7 @@ module _ (table : ArrayTable) (row_count : ℕ) (moves : ℕ → List NewMapping
     pub from : n ≤ v
     pub few : v + 4 * length nest.loops + slots_of_nest (plain body) ≤ many
     pub room : n + nest_rows n nest body ≤ row_count
-    pub has : HasAt code pc (nest_instructions line (along v nest.loops) (text_in n nest body) (test_in n nest body) (stored n nest body) (finals n nest body) (plain body)
+    pub has : HasAt code pc (nest_instructions line (along v nest.loops) (nest_beside nest body) (text_in n nest body) (test_in n nest body) (stored n nest body) (finals n nest body) (plain body)
         (v + 4 * length nest.loops) pc)
 
   -- after them: the arrays and the scalars but for indices are those of a state, and so are the indices of loops that are none of the nest's

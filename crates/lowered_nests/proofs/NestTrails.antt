@@ -8,7 +8,7 @@ use Rattle.array_meaning.specs.Faults.{Fault}
 use Rattle.array_meaning.specs.State.{State, scalar}
 use Rattle.array_meaning.specs.Statements.{Nest, Block}
 use Rattle.array_meaning.specs.Iterations.{is_in, nest_axes}
-use Rattle.statement_trail.specs.NestParts.{conditions_in}
+use Rattle.statement_trail.specs.NestParts.{conditions_in, nest_anchor}
 use Rattle.statement_trail.specs.Trail.{Trail, block_parts}
 use Rattle.machine_steps.specs.Instr.{Status, Running, Finished, Faulted}
 use Rattle.machine_steps.specs.Machine.{Machine, Kept, step, step_by, step_while, steps, instr_at, instr_of, verdict_control, last_control, last_of, on}
@@ -16,9 +16,11 @@ use Rattle.machine_steps.specs.SameLayouts.{is_same_layout}
 use Rattle.node_run.proofs.Wholes.{same-code}
 use Rattle.code_meaning.specs.Flat.{slot}
 use Rattle.node_code.specs.Forms.{Sub}
+use Rattle.node_code.specs.Anchors.{FlatAnchor}
 use Rattle.code_meaning.specs.Forms.{selections_in}
 use Rattle.node_code.specs.Instructions.{Instruction, NewMapping, MakeCopies, Verdict, FoldCopy, LastCopy}
 use Rattle.code_meaning.specs.Instructions.{ArrayTable, meaning_of}
+use Rattle.lowered_expressions.specs.Anchors.{IsAnchorText}
 use Rattle.lowered_expressions.specs.Passed.{note_at, note_while, passed, passed_now, IsTrail}
 use Rattle.lowered_expressions.proofs.Reach.{HasAt, has-front, has-back, steps-more, passed-more}
 use Rattle.nest_syntax.specs.NestKinds.{has_copies}
@@ -35,7 +37,7 @@ use Rattle.nest_join.specs.NestNames.{NestNames}
 use Rattle.nest_join.specs.NestTexts.{text_of, test_of, HoldsEntry}
 use Rattle.nest_join.specs.CodedBlocks.{IsCodedBlock, CodedBody, coded}
 use Rattle.nest_join.proofs.RowPlaces.{lt-so}
-use Rattle.program_code.specs.NestCode.{scalars, stored}
+use Rattle.program_code.specs.NestCode.{nest_beside, scalars, stored}
 use Rattle.lowered_nests.specs.NamesIn.{names_in}
 use Rattle.lowered_nests.proofs.Passing.{Rest, stands, Passes, passes-none, passes-on, passes-at, passes-one}
 use Rattle.lowered_nests.proofs.NestPasses.{N, count-block, block-passes}
@@ -57,30 +59,30 @@ has-meant table code to pc (i ∷ is) le h = ((ap (instr_of (meaning_of table)) 
 
 abbrev AreMakes : List Instruction → Type 0
 AreMakes [] = Unit {0}
-AreMakes (MakeCopies copy over start ∷ is) = AreMakes is
+AreMakes (MakeCopies copy over start beside ∷ is) = AreMakes is
 AreMakes (i ∷ is) = ⊥
 
 makes-both : (is js : List Instruction) → AreMakes is → AreMakes js → AreMakes (is ++ js)
 makes-both [] js h g = g
-makes-both (MakeCopies copy over start ∷ is) js h g = makes-both is js h g
+makes-both (MakeCopies copy over start beside ∷ is) js h g = makes-both is js h g
 makes-both (i ∷ is) js h g = absurd h
 
-finals-make : (line : ℕ) (over : List Sub) (fs : List Final) → AreMakes (finals_makes line over fs)
-finals-make line over [] = tt
-finals-make line over (Folds j r x ∷ fs) = finals-make line over fs
-finals-make line over (Lasts r q x ∷ fs) = finals-make line over fs
+finals-make : (line : ℕ) (over : List Sub) (beside : Option FlatAnchor) (fs : List Final) → AreMakes (finals_makes line over beside fs)
+finals-make line over beside [] = tt
+finals-make line over beside (Folds j r x ∷ fs) = finals-make line over beside fs
+finals-make line over beside (Lasts r q x ∷ fs) = finals-make line over beside fs
 
-conditions-make : (line : ℕ) (over : List Sub) (first count : ℕ) → AreMakes (conditions_makes line over first count)
-conditions-make line over first zero = tt
-conditions-make line over first (suc count) = makes-both (conditions_makes line over first count) _ (conditions-make line over first count) tt
+conditions-make : (line : ℕ) (over : List Sub) (beside : Option FlatAnchor) (first count : ℕ) → AreMakes (conditions_makes line over beside first count)
+conditions-make line over beside first zero = tt
+conditions-make line over beside first (suc count) = makes-both (conditions_makes line over beside first count) _ (conditions-make line over beside first count) tt
 
 module _ (table : ArrayTable) (moves : ℕ → List NewMapping) (code : List Instruction) (last : ℕ) where
   makes-pass : (is : List Instruction) (pc : ℕ) (s : List ℤ) → AreMakes is → HasAt code pc is → pc + length is ≤ last → Passes table moves code last [] pc s (pc + length is) s
   makes-pass [] pc s are has le = let e : pc ≡ pc + 0 = omega arith in passes-at table moves code last [] pc pc (pc + 0) s s e (passes-none table moves code last pc s)
-  makes-pass (MakeCopies copy over start ∷ is) pc s are has le =
+  makes-pass (MakeCopies copy over start beside ∷ is) pc s are has le =
       let e : pc + 1 + length is ≡ pc + suc (length is) = omega arith in
       passes-on table moves code last [] [] pc (pc + 1) (pc + suc (length is)) s s s
-      (passes-one table moves code last [] pc (pc + 1) s s (MakeCopies copy over start) has.0 (omega (arith, le)) (λ r. refl) tt)
+      (passes-one table moves code last [] pc (pc + 1) s s (MakeCopies copy over start beside) has.0 (omega (arith, le)) (λ r. refl) tt)
       (passes-at table moves code last [] (pc + 1) (pc + 1 + length is) (pc + suc (length is)) s s e (makes-pass is (pc + 1) s are has.1 (omega (arith, le))))
   makes-pass (i ∷ is) pc s are has le = absurd are
 
@@ -167,18 +169,21 @@ module _ (table : ArrayTable) (moves : ℕ → List NewMapping) (code : List Ins
     (entry : List ℤ) (s : State) (holds : HoldsEntry (names_in table n nest body over is_index) b entry s) (outside : (x : ℕ) → b ≤ x → is_index x ≡ false)
     (assigned : (k : ℕ) → has_copies ((names_in table n nest body over is_index).kinds k) ≡ true → is_in k (scalars n nest body) ≡ true)
     (tuples : (slots : List ℤ) → SameSlots is_index b entry slots → selections_in slots over ≡ map Along (nest_axes s nest))
-    (slots : (k : ℕ) → k < n → slot entry k ≡ scalar s k) (ok : IsCodedBlock (names_in table n nest body over is_index) s [] body) (fs : List Final) where
+    (anchored : IsAnchorText n (nest_anchor nest body)) (slots : (k : ℕ) → k < n → slot entry k ≡ scalar s k) (ok : IsCodedBlock (names_in table n nest body over is_index) s [] body) (fs : List Final) where
   abbrev w : NestNames
   w = names_in table n nest body over is_index
 
   abbrev x : CodedBody w
   x = coded w s [] body ok
 
+  abbrev beside : Option FlatAnchor
+  beside = nest_beside nest body
+
   abbrev makes : List Instruction
-  makes = finals_makes line over fs ++ conditions_makes line over (stored n nest body) (count_nest x)
+  makes = finals_makes line over beside fs ++ conditions_makes line over beside (stored n nest body) (count_nest x)
 
   abbrev statements : List Instruction
-  statements = body_instructions line over (text_of w) (test_of w) (stored n nest body) x None 0 b (pc + length makes)
+  statements = body_instructions line over beside (text_of w) (test_of w) (stored n nest body) x None 0 b (pc + length makes)
 
   abbrev ending : List Instruction
   ending = Verdict ∷ finals_instructions line fs
@@ -188,25 +193,26 @@ module _ (table : ArrayTable) (moves : ℕ → List NewMapping) (code : List Ins
   last = pc + length makes + length statements
 
   abbrev T : Trail
-  T = block_parts (N table moves code last line n nest body over is_index b (conditions_in body) entry s holds outside assigned tuples) None 0 body s
+  T = block_parts (N table moves code last line n nest body over is_index b (conditions_in body) entry s holds outside assigned tuples anchored) None 0 body s
 
   abbrev instructions : List Instruction
-  instructions = nest_instructions line over (text_of w) (test_of w) (stored n nest body) fs x b pc
+  instructions = nest_instructions line over beside (text_of w) (test_of w) (stored n nest body) fs x b pc
 
   module _ (room : b + body_slots (body_of x) ≤ length entry) (has : HasAt code pc instructions) where
     has_after : HasAt code (pc + length makes) (statements ++ ending)
     has_after = has-back code pc makes (statements ++ ending) has
 
     count : count_nest x ≡ conditions_in body
-    count = count-block table moves code last line n nest body over is_index b (conditions_in body) entry s holds outside assigned tuples [] body ok
+    count = count-block table moves code last line n nest body over is_index b (conditions_in body) entry s holds outside assigned tuples anchored [] body ok
 
     parts-pass : Passes table moves code last T pc entry last (slots_after (counting_at line) (body_of x) b entry)
     parts-pass =
         passes-on table moves code last [] T pc (pc + length makes) last entry entry (slots_after (counting_at line) (body_of x) b entry)
         (makes-pass table moves code last makes pc entry
-        (makes-both (finals_makes line over fs) (conditions_makes line over (stored n nest body) (count_nest x)) (finals-make line over fs) (conditions-make line over (stored n nest body) (count_nest x)))
+        (makes-both (finals_makes line over beside fs) (conditions_makes line over beside (stored n nest body) (count_nest x)) (finals-make line over beside fs)
+        (conditions-make line over beside (stored n nest body) (count_nest x)))
         (has-front code pc makes (statements ++ ending) has) (omega arith))
-        (block-passes table moves code last line n nest body over is_index b (conditions_in body) entry s holds outside assigned tuples [] body ok None 0 b (pc + length makes) entry s (omega arith)
+        (block-passes table moves code last line n nest body over is_index b (conditions_in body) entry s holds outside assigned tuples anchored [] body ok None 0 b (pc + length makes) entry s (omega arith)
         (record { same = same-refl is_index b entry; scalars = slots; long = holds.scalars }) tt room (let c = count in omega (arith, c)) (has-front code (pc + length makes) statements ending has_after)
         (omega arith)).0
 

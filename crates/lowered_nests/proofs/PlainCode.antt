@@ -2,6 +2,7 @@
 use Rattle.std.proofs.Common.{◌≡◌, ℕ, ◌+◌, max, pos, List, [], ◌∷◌, ◌++◌, length, Option, Some, None, refl, sym, ap, ◌∙◌}
 use Rattle.node_code.specs.Flat.{Int}
 use Rattle.node_code.specs.Forms.{Sub}
+use Rattle.node_code.specs.Anchors.{FlatAnchor}
 use Rattle.node_code.specs.Instructions.{Instruction}
 use Rattle.nest_syntax.specs.Asked.{guard_asked, tested_asked}
 use Rattle.nest_syntax.specs.Finals.{Final}
@@ -81,36 +82,36 @@ module _ {A B C D : Type 0} (text_of : A → NestText) (text_in : B → NestText
     same-slots-arms (AndArm c x xs) (AndArm d y ys) h = λ i. max (same-slots x y h.1 i) (same-slots-arms xs ys h.2 i)
 
   -- and the same code
-  module _ (line : ℕ) (over : List Sub) (stored : ℕ) where
+  module _ (line : ℕ) (over : List Sub) (beside : Option FlatAnchor) (stored : ℕ) where
     abbrev Is : NestBody A C → Option ℕ → (k b pc : ℕ) → List Instruction
-    Is = body_instructions line over text_of test_of stored
+    Is = body_instructions line over beside text_of test_of stored
 
     abbrev Mine : NestBody B D → Option ℕ → (k b pc : ℕ) → List Instruction
-    Mine = body_instructions line over text_in test_in stored
+    Mine = body_instructions line over beside text_in test_in stored
 
     abbrev ArmsIs : NestArms A C → Option ℕ → List ℕ → (k b pc : ℕ) → List Instruction
-    ArmsIs = arms_instructions line over text_of test_of stored
+    ArmsIs = arms_instructions line over beside text_of test_of stored
 
     abbrev ArmsMine : NestArms B D → Option ℕ → List ℕ → (k b pc : ℕ) → List Instruction
-    ArmsMine = arms_instructions line over text_in test_in stored
+    ArmsMine = arms_instructions line over beside text_in test_in stored
 
     -- an assignment with its mark
     abbrev texted : Option ℕ → NestText → List Instruction
-    texted guard p = code.ParNest (assigning over (whens_of stored (guard_asked guard)) p) ∷ mark_instructions line over text_of test_of stored guard p.mark
+    texted guard p = code.ParNest (assigning over beside (whens_of stored (guard_asked guard)) p) ∷ mark_instructions line over beside text_of test_of stored guard p.mark
 
-    same-marks : (guard o : Option ℕ) → mark_instructions line over text_in test_in stored guard o ≡ mark_instructions line over text_of test_of stored guard o
+    same-marks : (guard o : Option ℕ) → mark_instructions line over beside text_in test_in stored guard o ≡ mark_instructions line over beside text_of test_of stored guard o
     same-marks guard None = refl
     same-marks guard (Some r) = refl
 
-    same-text : (guard : Option ℕ) (a : A) (b : B) → text_of a ≡ text_in b → text_instructions line over text_of test_of stored guard a ≡ text_instructions line over text_in test_in stored guard b
-    same-text guard a b h = ap (texted guard) h ∙ ap (λ is. code.ParNest (assigning over (whens_of stored (guard_asked guard)) (text_in b)) ∷ is) (sym (same-marks guard (text_in b).mark))
+    same-text : (guard : Option ℕ) (a : A) (b : B) → text_of a ≡ text_in b → text_instructions line over beside text_of test_of stored guard a ≡ text_instructions line over beside text_in test_in stored guard b
+    same-text guard a b h = ap (texted guard) h ∙ ap (λ is. code.ParNest (assigning over beside (whens_of stored (guard_asked guard)) (text_in b)) ∷ is) (sym (same-marks guard (text_in b).mark))
 
     same-test : (guard : Option ℕ) (earlier : List ℕ) (c : Option C) (d : Option D) (copy : ℕ) → IsSameTest c d
-        → test_instruction line over text_of test_of stored (tested_asked guard earlier) c copy ≡ test_instruction line over text_in test_in stored (tested_asked guard earlier) d copy
+        → test_instruction line over beside text_of test_of stored (tested_asked guard earlier) c copy ≡ test_instruction line over beside text_in test_in stored (tested_asked guard earlier) d copy
     same-test guard earlier None None copy h = refl
     same-test guard earlier None (Some d) copy h = absurd h
     same-test guard earlier (Some c) None copy h = absurd h
-    same-test guard earlier (Some c) (Some d) copy h = ap (λ p. code.ParNest (testing over (whens_of stored (tested_asked guard earlier)) p copy)) h
+    same-test guard earlier (Some c) (Some d) copy h = ap (λ p. code.ParNest (testing over beside (whens_of stored (tested_asked guard earlier)) p copy)) h
 
     mutual
       pub same-code : (a : NestBody A C) (b : NestBody B D) → AreSame a b → (guard : Option ℕ) (k x pc : ℕ) → Is a guard k x pc ≡ Mine b guard k x pc
@@ -122,8 +123,8 @@ module _ {A B C D : Type 0} (text_of : A → NestText) (text_in : B → NestText
       same-code (AndText a r) (AndText b q) h guard k x pc =
           let c = same-text guard a b h.0 in
           (λ i. c i ++ Is r guard k x (pc + length (c i)))
-          ∙ ap (λ is. text_instructions line over text_in test_in stored guard b ++ is)
-          (same-code r q h.1 guard k x (pc + length (text_instructions line over text_in test_in stored guard b)))
+          ∙ ap (λ is. text_instructions line over beside text_in test_in stored guard b ++ is)
+          (same-code r q h.1 guard k x (pc + length (text_instructions line over beside text_in test_in stored guard b)))
       same-code (AndText a r) (AndIf ys q) h guard k x pc = absurd h
       same-code (AndText a r) (AndLoop y j q) h guard k x pc = absurd h
       same-code (AndIf xs r) NoText h guard k x pc = absurd h
@@ -159,12 +160,12 @@ module _ {A B C D : Type 0} (text_of : A → NestText) (text_in : B → NestText
           (λ u. e u ++ ArmsIs xs guard (k ∷ earlier) (k + 1 + n u) x (pc + 2 + length (e u)))
           ∙ ap (λ is. Mine b (Some k) (k + 1) x (pc + 2) ++ is)
           (same-arms xs ys h.2 guard (k ∷ earlier) (k + 1 + count_nest b) x (pc + 2 + length (Mine b (Some k) (k + 1) x (pc + 2)))) in
-          λ u. code.MakeCopies (stored + k) over (Int (pos 0)) ∷ same-test guard earlier c d (stored + k) h.0 u ∷ rest u
+          λ u. code.MakeCopies (stored + k) over (Int (pos 0)) beside ∷ same-test guard earlier c d (stored + k) h.0 u ∷ rest u
 
     pub same-nest : (fs : List Final) (a : NestBody A C) (b : NestBody B D) → AreSame a b → (x pc : ℕ)
-        → nest_instructions line over text_of test_of stored fs a x pc ≡ nest_instructions line over text_in test_in stored fs b x pc
+        → nest_instructions line over beside text_of test_of stored fs a x pc ≡ nest_instructions line over beside text_in test_in stored fs b x pc
     same-nest fs a b h x pc =
         let n = same-count a b h in
-        let c = finals_makes line over fs ++ conditions_makes line over stored (count_nest b) in
-        (λ u. let c = finals_makes line over fs ++ conditions_makes line over stored (n u) in c ++ (Is a None 0 x (pc + length c) ++ code.Verdict ∷ finals_instructions line fs))
+        let c = finals_makes line over beside fs ++ conditions_makes line over beside stored (count_nest b) in
+        (λ u. let c = finals_makes line over beside fs ++ conditions_makes line over beside stored (n u) in c ++ (Is a None 0 x (pc + length c) ++ code.Verdict ∷ finals_instructions line fs))
         ∙ (λ u. c ++ (same-code a b h None 0 x (pc + length c) u ++ code.Verdict ∷ finals_instructions line fs))

@@ -44,7 +44,7 @@ use Rattle.program_code.specs.Places.{final_by, finals_from}
 use Rattle.nest_join.specs.NestRuns.{NestCode, machine_body, code_of, acts_of, IsBegun}
 use Rattle.nest_join.proofs.SameItems.{items-block}
 use Rattle.nest_join.proofs.RowPlaces.{places-apart, scalars-apart, slot-is}
-use Rattle.program_code.specs.NestCode.{plain, text_in, test_in, scalars, conditions, kinds_in, stored, finals, along}
+use Rattle.program_code.specs.NestCode.{nest_beside, plain, text_in, test_in, scalars, conditions, kinds_in, stored, finals, along}
 use Rattle.lowered_nests.proofs.NestRuns.{HasCopies, NestStands}
 use Rattle.lowered_nests.proofs.PlainCode.{same-slots}
 use Rattle.lowered_nests.proofs.CodedTexts.{same-block}
@@ -186,7 +186,7 @@ module _ (table : ArrayTable) (row_count : ℕ) (moves : ℕ → List NewMapping
     outside = off;
     fit = begun.texts-fit table row_count moves code n many lie line pc v nest loop block body s slots rows h some;
     one_place = places-apart n ks conds (begun.are table row_count moves code n many lie line pc v nest loop block body s slots rows h some);
-    memory = subst (λ m. IsPlacedMemory (nest_layout table over) slots w.place w.is_row kinds N start (nest_entries (finals n nest body) (stored n nest body) m) (d i)) (sym count-is)
+    memory = subst (λ m. IsPlacedMemory (nest_layout table over (nest_beside nest body)) slots w.place w.is_row kinds N start (nest_entries (finals n nest body) (stored n nest body) m) (d i)) (sym count-is)
         (memory table row_count moves code n many lie line pc v nest loop block body s slots rows h some i);
     empty = refl;
     none_done = refl;

@@ -32,7 +32,8 @@ use Rattle.nest_join.proofs.NestsEnd.{nests-end}
 use Rattle.nest_join.proofs.Held.{arrays-held, scalar-held}
 use Rattle.nest_join.proofs.HeldIndices.{index-held}
 use Rattle.code_meaning.specs.NestStatements.{iterations_at}
-use Rattle.program_code.specs.NestCode.{plain, text_in, test_in, stored, finals, along}
+use Rattle.code_meaning.specs.Anchors.{anchor_in}
+use Rattle.program_code.specs.NestCode.{nest_beside, plain, text_in, test_in, stored, finals, along}
 use Rattle.lowered_nests.specs.NamesIn.{names_in}
 use Rattle.lowered_nests.proofs.NestRuns.{HasCopies, NestStands, NestDone, StatementsEnd, StatementsFault, place_after, nest_run}
 use Rattle.lowered_nests.proofs.SteadyRows.{same-rows}
@@ -79,7 +80,7 @@ module _ (table : ArrayTable) (row_count : ℕ) (moves : ℕ → List NewMapping
         ⊎ ((f : Fault) × ((steps (meaning_of table) k (stands table row_count moves code pc slots rows s.printed i)).control.status ≡ machine.Faulted f))
         → IsTrail moves (passed table k (stands table row_count moves code pc slots rows s.printed i)) (nest_trail nest body s)
     pub long : length (code_of (names_in table n nest body (along v nest.loops) is_index) (code_in n line pc v nest body) s body ok)
-        ≡ length (nest_instructions line (along v nest.loops) (text_in n nest body) (test_in n nest body) (stored n nest body) (finals n nest body) (plain body) (v + 4 * length nest.loops) pc)
+        ≡ length (nest_instructions line (along v nest.loops) (nest_beside nest body) (text_in n nest body) (test_in n nest body) (stored n nest body) (finals n nest body) (plain body) (v + 4 * length nest.loops) pc)
 
   module _ (copies : HasCopies table n) (line pc v : ℕ) (nest : Nest) (loop : Loop) (block body : Block) (s : State) (slots : List ℤ) (rows : Storage)
       (h : NestStands table row_count moves code n many line pc v nest loop block body s slots rows) (b : NestBegins line pc v nest loop block body s slots rows h)
@@ -150,7 +151,7 @@ module _ (table : ArrayTable) (row_count : ℕ) (moves : ℕ → List NewMapping
 
       rows-same : (i : Idle row_count) → (ends i).after.data'.rows ≡ rows'
       rows-same i = (ends i).after.rows_are
-          ∙ same-rows (nest_layout w.table w.over) (λ one other z. copies.sized one None _ ∙ sym (copies.sized other None _)) (texts_of w) (counting_at c.line) (iterations_at w.over) c.stored c.finals
+          ∙ same-rows (nest_layout w.table w.over w.beside) (λ one other z. copies.sized one (anchor_in z w.over w.beside) _ ∙ sym (copies.sized other (anchor_in z w.over w.beside) _)) (texts_of w) (counting_at c.line) (iterations_at w.over) c.stored c.finals
           (machine_body w c s body b.ok) c.slot slots (data_in rows i) (data_in rows first) refl
           ∙ sym e.after.rows_are
 

@@ -8,7 +8,7 @@ use Rattle.array_meaning.specs.Statements.{Loop, Nest, Block}
 use Rattle.array_meaning.specs.Faults.{Fault}
 use Rattle.array_meaning.specs.Iterations.{is_in, nest_axes, nest_indices, iteration_count}
 use Rattle.array_meaning.specs.Touches.{assigned_in}
-use Rattle.statement_trail.specs.NestParts.{among_from, conditions_in, entered_nest, index_in}
+use Rattle.statement_trail.specs.NestParts.{among_from, conditions_in, entered_nest, index_in, nest_anchor}
 use Rattle.statement_trail.specs.Trail.{block_parts, nest_trail}
 use Rattle.machine_steps.specs.Instr.{Faulted}
 use Rattle.machine_steps.specs.Machine.{steps}
@@ -29,7 +29,7 @@ use Rattle.nest_join.specs.CodedBlocks.{IsCodedBlock, coded}
 use Rattle.nest_join.specs.NestRuns.{NestCode, IsBegun, code_of}
 use Rattle.program_code.specs.Places.{AreScalars}
 use Rattle.nest_join.proofs.RowPlaces.{lt-so, not-among}
-use Rattle.program_code.specs.NestCode.{plain, text_in, test_in, scalars, conditions, kinds_in, stored, finals, along}
+use Rattle.program_code.specs.NestCode.{nest_beside, plain, text_in, test_in, scalars, conditions, kinds_in, stored, finals, along}
 use Rattle.lowered_nests.proofs.NestRuns.{HasCopies, NestStands, StatementsRun, place_after}
 use Rattle.lowered_nests.proofs.PlainCode.{same-nest}
 use Rattle.lowered_nests.proofs.CodedTexts.{same-block}
@@ -62,13 +62,13 @@ module _ (table : ArrayTable) (row_count : ℕ) (moves : ℕ → List NewMapping
   are = begun.are table row_count moves code n many lie line pc v nest loop block body s slots rows h some
 
   abbrev instructions : List Instruction
-  instructions = nest_instructions line over (text_in n nest body) (test_in n nest body) (stored n nest body) (finals n nest body) (plain body) b pc
+  instructions = nest_instructions line over (nest_beside nest body) (text_in n nest body) (test_in n nest body) (stored n nest body) (finals n nest body) (plain body) b pc
 
   means : map (meaning_of table) instructions ≡ code_of w c s body ok
   means =
-      ap (map (meaning_of table)) (sym (same-nest (text_of w) (text_in n nest body) (test_of w) (test_in n nest body) line over (stored n nest body) (finals n nest body)
+      ap (map (meaning_of table)) (sym (same-nest (text_of w) (text_in n nest body) (test_of w) (test_in n nest body) line over (nest_beside nest body) (stored n nest body) (finals n nest body)
       (coded w s [] body ok) (plain body) (same-block table n nest body over w.is_index s [] body ok) b pc))
-      ∙ nest-means table line over (text_of w) (test_of w) (stored n nest body) (finals n nest body) (coded w s [] body ok) b pc (safe-block w s [] body ok)
+      ∙ nest-means table line over (nest_beside nest body) (text_of w) (test_of w) (stored n nest body) (finals n nest body) (coded w s [] body ok) b pc (safe-block w s [] body ok)
 
   abbrev end : ℕ
   end = place_after n line pc v nest body
@@ -83,19 +83,19 @@ module _ (table : ArrayTable) (row_count : ℕ) (moves : ℕ → List NewMapping
   -- ---- what is passed
 
   abbrev instructions_of_texts : List Instruction
-  instructions_of_texts = nest_instructions line over (text_of w) (test_of w) (stored n nest body) (finals n nest body) (coded w s [] body ok) b pc
+  instructions_of_texts = nest_instructions line over (nest_beside nest body) (text_of w) (test_of w) (stored n nest body) (finals n nest body) (coded w s [] body ok) b pc
 
   same-instructions : instructions_of_texts ≡ instructions
   same-instructions =
-      same-nest (text_of w) (text_in n nest body) (test_of w) (test_in n nest body) line over (stored n nest body) (finals n nest body)
+      same-nest (text_of w) (text_in n nest body) (test_of w) (test_in n nest body) line over (nest_beside nest body) (stored n nest body) (finals n nest body)
       (coded w s [] body ok) (plain body) (same-block table n nest body over w.is_index s [] body ok) b pc
 
   listed : (k : ℕ) → has_copies (w.kinds k) ≡ true → is_in k (scalars n nest body) ≡ true
   listed k e = let z = begun.listed table row_count moves code n many lie line pc v nest loop block body s slots rows h some k e in is-in (scalars n nest body) 0 k z.0 z.1
 
-  trail-is : block_parts (record { indices = nest_indices nest; axes = nest_axes s nest; assigned = scalars n nest body; conditions = conditions_in body }) None 0 body s ≡ nest_trail nest body s
+  trail-is : block_parts (record { indices = nest_indices nest; axes = nest_axes s nest; assigned = scalars n nest body; conditions = conditions_in body; beside = nest_anchor nest body }) None 0 body s ≡ nest_trail nest body s
   trail-is =
-      ap (λ m. block_parts (record { indices = nest_indices nest; axes = nest_axes s nest; assigned = among_from (assigned_in body) 0 m; conditions = conditions_in body }) None 0 body s)
+      ap (λ m. block_parts (record { indices = nest_indices nest; axes = nest_axes s nest; assigned = among_from (assigned_in body) 0 m; conditions = conditions_in body; beside = nest_anchor nest body }) None 0 body s)
       (sym h.holds.places)
       ∙ by_test (iteration_count nest s == 0) refl
     where
@@ -114,7 +114,8 @@ module _ (table : ArrayTable) (row_count : ℕ) (moves : ℕ → List NewMapping
       subst (λ is. Passed i k (pc + length is)) same-instructions
       (λ quiet ends. subst (IsTrail moves (passed table k (reach.stands table row_count moves code pc slots rows s.printed i))) trail-is
       (trail-passed table moves code line n nest body over w.is_index b pc slots s (begun-at i).holds
-      (begun-at i).outside listed (begun.gives table row_count moves code n many lie line pc v nest loop block body s slots rows h some) h.holds.scalars ok (finals n nest body) (begun-at i).room
+      (begun-at i).outside listed (begun.gives table row_count moves code n many lie line pc v nest loop block body s slots rows h some)
+      (begun.anchored table row_count moves code n many lie line pc v nest loop block body s slots rows h some) h.holds.scalars ok (finals n nest body) (begun-at i).room
       (subst (HasAt code pc) (sym same-instructions) h.has)
       (record { rows = rows; layouts = i.layouts; kept = None; parts = 0; joined = i.joined; line = []; printed = s.printed }) k quiet ends))
 

@@ -9,6 +9,7 @@
 //!
 //! - `NamesIn`: the names of a nest on the machine, by its code.
 //! - `PlainCode`, `CodedTexts`: that code is the one of which the law of nests speaks.
+//! - `NestAnchors`: what a nest's copies lie beside is an element of a declared array, so that where they lie doesn't depend on the rows that the nest makes.
 //! - `CodedBody`, `Begun`, `Entered`, `Starts`: all that the law of nests asks at the entry holds of a nest that keeps its form and is entered.
 //! - `Passing`, `LoopPasses`, `NestPasses`, `NestTrails`: on its way through the statements the machine passes the parts of the nest, in their order; where it
 //!   goes depends on slots alone.

@@ -17,7 +17,9 @@ use Rattle.machine_steps.specs.Instr as instr
 use Rattle.machine_steps.specs.Instr.{Outcome, Tuples}
 use Rattle.machine_steps.specs.Machine as machine
 use Rattle.machine_steps.specs.Machine.{effect_of, effect_by}
+use Rattle.node_code.specs.Anchors.{FlatAnchor}
 use Rattle.node_code.specs.Forms.{Sub, ArrayForm}
+use Rattle.code_meaning.specs.Anchors.{anchor_in}
 use Rattle.code_meaning.specs.Parallel.{fault_at, at_line, outcome_of, evaluation_extents, copy_spot}
 use Rattle.node_code.specs.Parallel.{Evaluation}
 use Rattle.statement_trail.specs.Trail.{Trail, after_value}
@@ -31,9 +33,9 @@ use Rattle.lowering.proofs.Evaluating.{result-outcome}
 use Rattle.lowering.proofs.Pars.{par-reaches, par-stops}
 
 module _ (table : ArrayTable) (row_count : ℕ) (moves : ℕ → List NewMapping) (code : List Instruction) (n many leave again : ℕ) (sized : (layouts : List Layout) (anchor : Option Anchor) (ns : List ℕ) → size_of (table.copies layouts anchor ns) ≡ space_count ns) (line b pc to : ℕ)
-    (form : ArrayForm) (over : List Sub) (par : Instruction) (tuples : Tuples Fault) (is : meaning_of table par ≡ instr.Par tuples (copy_spot n)) where
+    (form : ArrayForm) (over : List Sub) (beside : Option FlatAnchor) (par : Instruction) (tuples : Tuples Fault) (is : meaning_of table par ≡ instr.Par tuples (copy_spot n)) where
   abbrev p : Evaluation
-  p = record { line = line; form = form; over = over }
+  p = record { line = line; form = form; over = over; beside = beside }
 
   module _ (has : HasAt code pc (MakeCopy n p ∷ par ∷ Verdict ∷ [])) (slots : List ℤ) (rows : Storage) (s : State) (holds : Holds table row_count moves code n many None s slots rows)
       (ns : List ℕ) (shape : evaluation_extents p slots ≡ ns) (counted : tuples.count slots ≡ product ns) (all : space_count ns ≡ product ns)
@@ -83,12 +85,12 @@ module _ (table : ArrayTable) (row_count : ℕ) (moves : ℕ → List NewMapping
 
     makes : Reaches table row_count moves code [] m0 m1
     makes i =
-        let layout : Layout = table.copies i.layouts None (evaluation_extents p slots) in
+        let layout : Layout = table.copies i.layouts (anchor_in slots over beside) (evaluation_extents p slots) in
         let j : Idle row_count = record { layouts = slice_set i.layouts n layout; joined = i.joined; laid = length-set i.layouts n layout ∙ i.laid } in (
           1,
           j,
           one table row_count moves code pc slots rows s.printed (MakeCopy n p) has.0 i
-              ∙ ap (λ k. stands table row_count moves code (pc + 1) slots (slice_set rows n (replicate k (pos 0))) s.printed j) (sized i.layouts None (evaluation_extents p slots)),
+              ∙ ap (λ k. stands table row_count moves code (pc + 1) slots (slice_set rows n (replicate k (pos 0))) s.printed j) (sized i.layouts (anchor_in slots over beside) (evaluation_extents p slots)),
           still table row_count moves code pc slots rows s.printed (MakeCopy n p) has.0 refl i,
         )
 

@@ -21,11 +21,12 @@ use Rattle.machine_steps.specs.Space.{space_count}
 use Rattle.machine_steps.specs.Machine as machine
 use Rattle.machine_steps.specs.Machine.{Machine, Kept, keep, folded, verdict_control, stay, step, step_by, steps, instr_of}
 use Rattle.code_meaning.specs.Flat.{slot}
+use Rattle.node_code.specs.Anchors.{FlatAnchor}
 use Rattle.node_code.specs.Forms.{ArrayForm}
 use Rattle.code_meaning.specs.Forms.{elemental_in}
 use Rattle.code_meaning.specs.Parallel.{at_line, outcome_of, reads_at, value_by_reads, evaluation_extents, evaluation_size, evaluation_tuples, reduction_tuples, made_outcome, fold_of}
 use Rattle.node_code.specs.Parallel.{Evaluation}
-use Rattle.program_code.specs.ExpressionCode.{own_evaluation, reduce_code}
+use Rattle.program_code.specs.ExpressionCode.{copied_evaluation, own_evaluation, reduce_code}
 use Rattle.lowered_expressions.proofs.Reach.{still, entries-more, Idle, HasAt, same-refl, same-set, slot-set, stands, one, Comes, comes-on}
 use Rattle.lowered_expressions.proofs.Terms.{HoldsScalars, HoldsArrays}
 use Rattle.lowered_expressions.proofs.Keeping.{IsOutcome, Keeps, keeps}
@@ -36,10 +37,10 @@ pub result-outcome : (line : ℕ) (q : Result ℤ Cause) → IsOutcome line (out
 result-outcome line (Ok v) = λ t. refl
 result-outcome line (Err c) = refl
 
-module _ (n : ℕ) (shapes : List (List Dim)) (s : State) (rows : Storage) (arrays : HoldsArrays n shapes s rows) (line : ℕ) (form : ArrayForm) (slots : List ℤ)
-    (x : Elemental) (right : elemental_in slots form ≡ x) (named : NamesBelow n x) where
+module _ (n : ℕ) (shapes : List (List Dim)) (s : State) (rows : Storage) (arrays : HoldsArrays n shapes s rows) (line : ℕ) (form : ArrayForm) (beside : Option FlatAnchor)
+    (slots : List ℤ) (x : Elemental) (right : elemental_in slots form ≡ x) (named : NamesBelow n x) where
   abbrev p : Evaluation
-  p = own_evaluation line form
+  p = copied_evaluation line form beside
 
   pub own-shape : evaluation_extents p slots ≡ first_extents (sections x)
   own-shape = sym (shape-first slots p.form) ∙ ap (λ y. first_extents (sections y)) right
@@ -113,7 +114,7 @@ module _ (table : ArrayTable) (row_count : ℕ) (moves : ℕ → List NewMapping
       outcome = machine.outcome_of (reduction_tuples table.shapes p (reduction_of o).made) slots (read rows)
 
       tuple-is : (u : ℕ) → outcome u ≡ made_outcome (reduction_of o).made (outcome_of (at_line line (at_tuple (positions ns u) (value_at s (positions ns u) r))))
-      tuple-is u = ap (made_outcome (reduction_of o).made) (own-outcome n table.shapes s rows arrays line form slots r right named u)
+      tuple-is u = ap (made_outcome (reduction_of o).made) (own-outcome n table.shapes s rows arrays line form None slots r right named u)
 
       kept-is : Keeps line outcome (values_over s ns r count) count
       kept-is = keeps line outcome (positions ns) (λ u. value_at s (positions ns u) r) count
@@ -139,14 +140,14 @@ module _ (table : ArrayTable) (row_count : ℕ) (moves : ℕ → List NewMapping
       that = (
         record {
           scalars = λ k lk. scalars k (omega (arith, lk, arrays.places));
-          event = (refl, (o, rw (own-shape n table.shapes s rows arrays line form slots r right named, right) refl, refl));
+          event = (refl, (o, rw (own-shape n table.shapes s rows arrays line form None slots r right named, right) refl, refl));
         },
         tt,
       )
 
       first-step : space_count ns ≡ count → (i : Idle row_count) → step (meaning_of table) (stands table row_count moves code (pc + 1) slots rows out i) ≡ values 1 (keep outcome 0 count None) (folded (fold_of (reduction_of o).join) outcome count) i
       first-step all i = ap (λ z. step_by (instr_of (meaning_of table) z) (stands table row_count moves code (pc + 1) slots rows out i)) has.1.0
-          ∙ ap (λ k. values 1 (keep outcome 0 k None) (folded (fold_of (reduction_of o).join) outcome k) i) (ap space_count (own-shape n table.shapes s rows arrays line form slots r right named) ∙ all)
+          ∙ ap (λ k. values 1 (keep outcome 0 k None) (folded (fold_of (reduction_of o).join) outcome k) i) (ap space_count (own-shape n table.shapes s rows arrays line form None slots r right named) ∙ all)
 
       two : space_count ns ≡ count → (i : Idle row_count) → steps (meaning_of table) 2 (stands table row_count moves code (pc + 1) slots rows out i)
           ≡ judged (keep outcome 0 count None) (folded (fold_of (reduction_of o).join) outcome count) i
@@ -191,7 +192,7 @@ module _ (table : ArrayTable) (row_count : ℕ) (moves : ℕ → List NewMapping
           ≡ record (stands table row_count moves code pc slots rows out i) { control = go_on_if {A = ℕ} (at_line line q) (record { at = pc; slots = slots; status = Running }) }
       limits q e i = one table row_count moves code pc slots rows out (OwnLimits p) has.0 i
           ∙ ap (λ q. record (stands table row_count moves code pc slots rows out i) { control = go_on_if {A = ℕ} (at_line line q) (record { at = pc; slots = slots; status = Running }) })
-          (own-limits n table.shapes s rows arrays line form slots r right named ∙ e)
+          (own-limits n table.shapes s rows arrays line form None slots r right named ∙ e)
 
       by_limits : (q : Result ℕ Cause) → space_size ns (sections r) ≡ q → Comes table row_count moves code line rows out (after_value q (λ k. entry)) pc (pc + 2) b slots P
           (q >>= (λ k. values_over s ns r k >>= pair) >>= second)

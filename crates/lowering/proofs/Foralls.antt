@@ -35,12 +35,15 @@ use Rattle.code_meaning.specs.Forms.{selections_at, selections_in, elemental_at}
 use Rattle.node_code.specs.Parallel.{When, Assignment, Evaluation}
 use Rattle.code_meaning.specs.Parallel.{at_line, outcome_if, outcome_of, mask_reads, is_asked, spot_of, reads_at, value_by_reads, assigned_value, indices_in, forall_tuples, forall_spot, forall_mask_tuples}
 use Rattle.code_meaning.specs.ForallLimits.{term_of, slots_state, sequences_of, unless_empty, forall_limits, one_to_one}
-use Rattle.program_code.specs.ExpressionCode.{subscripts_slots, subs_of, subscripts_code, control_slots, index_flat, index_form}
-use Rattle.program_code.specs.StatementCode.{triplets, one_to_one_code, forall_mask_code, forall_assignment, forall_assignments_code, forall_code, where_true}
+use Rattle.program_code.specs.ExpressionCode.{subscripts_slots, subs_of, subscripts_code, control_slots, index_flat, index_form, anchor_code}
+use Rattle.program_code.specs.StatementCode.{triplets, one_to_one_code, forall_beside, forall_mask_code, forall_assignment, forall_assignments_code, forall_code, where_true}
 use Rattle.lowered_expressions.specs.WellFormed.{AreSubscripts, IsIndexed, AreScalarSubscripts, AreControls, IsIndexedMask, AreIndexedAssignments}
 use Rattle.std.specs.Prelude.{is_some}
+use Rattle.statement_trail.specs.Anchors.{AnchorText, forall_anchor}
 use Rattle.statement_trail.specs.Trail.{Trail, ForallMask, ElementsAssigned, after_value, after_run, reached, value_trail, selections_trail, control_trail, all_controls_trail, forall_trail, forall_parts_trail, if_not_empty, trail}
+use Rattle.lowered_expressions.specs.Anchors.{IsAnchorText}
 use Rattle.lowered_expressions.specs.Passed.{IsMaskCopy, note, IsTrail}
+use Rattle.lowered_expressions.proofs.Anchors.{forall-anchored}
 use Rattle.lowered_expressions.proofs.Goes.{goes-as, Holds, Kept, kept-refl, Goes, goes-at, goes-then-kept, goes-value, value-bind, lands-done}
 use Rattle.lowering.proofs.Wheres.{after-made, forget}
 use Rattle.lowering.proofs.Parts.{after-ok, triplet-trail, SubsGive, subscripts-come}
@@ -267,46 +270,62 @@ module _ (table : ArrayTable) (row_count : ℕ) (moves : ℕ → List NewMapping
 
     -- ---- assignments
 
-    assigns-all : space_count ns ≡ product ns → (copy : Option (List ℤ)) (when : Option When) (m : Mask) → IsMaskCopy n when
+    assigns-all : space_count ns ≡ product ns → (copy : Option (List ℤ)) (when : Option When) (beside : Option AnchorText) (m : Mask) → IsMaskCopy n when → IsAnchorText n beside
         → ((s : State) (slots : List ℤ) (rows : Storage) → Holds table row_count moves code n many copy s slots rows → (t : ℕ) (values : List ℤ)
         → is_asked when (values_of rows (mask_reads when t) ++ values) ≡ m t)
         → (xs : List ElementAssignment) (pc : ℕ) (slots : List ℤ) (rows : Storage) (s : State) → AreIndexedAssignments n xs
-        → HasAt code pc (forall_assignments_code over when xs) → Holds table row_count moves code n many copy s slots rows → Gives slots
-        → Goes table row_count moves code n many copy leave again (forall_trail (is_some when) axes (product ns) m xs s) (pc + length (forall_assignments_code over when xs)) b1 slots (stands table row_count moves code pc slots rows s.printed)
+        → HasAt code pc (forall_assignments_code over when (option_map anchor_code beside) xs) → Holds table row_count moves code n many copy s slots rows → Gives slots
+        → Goes table row_count moves code n many copy leave again (forall_trail (is_some when) beside axes (product ns) m xs s) (pc + length (forall_assignments_code over when (option_map anchor_code beside) xs)) b1 slots (stands table row_count moves code pc slots rows s.printed)
         (assign_all_forall axes (product ns) m xs s)
-    assigns-all all copy when m masks asked [] pc slots rows s ok has holds gives =
+    assigns-all all copy when beside m masks anchored asked [] pc slots rows s ok has holds gives =
         let e : pc ≡ pc + 0 = omega arith in
         goes-at table row_count moves code n many copy leave again [] pc (pc + 0) b1 slots (stands table row_count moves code pc slots rows s.printed) (normal s) e
         (lands-done table row_count moves code n many copy leave again pc b1 slots rows s holds)
-    assigns-all all copy when m masks asked (x ∷ xs) pc slots rows s ok has holds gives =
-        goes-at table row_count moves code n many copy leave again (forall_trail (is_some when) axes (product ns) m (x ∷ xs) s) (pc + 2 + length cs) (pc + length (forall_assignments_code over when (x ∷ xs))) b1 slots
+    assigns-all all copy when beside m masks anchored asked (x ∷ xs) pc slots rows s ok has holds gives =
+        goes-at table row_count moves code n many copy leave again (forall_trail (is_some when) beside axes (product ns) m (x ∷ xs) s) (pc + 2 + length cs) (pc + length (forall_assignments_code over when (option_map anchor_code beside) (x ∷ xs))) b1 slots
         (stands table row_count moves code pc slots rows s.printed) (assign_all_forall axes (product ns) m (x ∷ xs) s) long
-        (goes-then-kept table row_count moves code n many copy leave again entry (forall_trail (is_some when) axes (product ns) m xs) (pc + 2) (pc + 2 + length cs) b1 slots (stands table row_count moves code pc slots rows s.printed)
+        (goes-then-kept table row_count moves code n many copy leave again entry (forall_trail (is_some when) beside axes (product ns) m xs) (pc + 2) (pc + 2 + length cs) b1 slots (stands table row_count moves code pc slots rows s.printed)
         (one_step x.line s (assign_forall axes (product ns) m x s)) (assign_all_forall axes (product ns) m xs)
         (stores-go table row_count moves code n many copy leave again (ParForall p) (forall_tuples table.shapes p) (forall_spot table.shapes p) refl x.line x.array b1 pc ok.0
         (has.0, (has.1.0, tt)) slots rows s holds (product ns) (ap space_count (extents-are slots gives) ∙ all) (indices_at axes) at_a_tuple (λ u lt. does u) entry those)
-        (λ slots1 rows1 s1 kept holds1. assigns-all all copy when m masks asked xs (pc + 2) slots1 rows1 s1 ok.3 at_rest holds1 (gives-kept copy slots slots1 gives kept)))
+        (λ slots1 rows1 s1 kept holds1. assigns-all all copy when beside m masks anchored asked xs (pc + 2) slots1 rows1 s1 ok.3 at_rest holds1 (gives-kept copy slots slots1 gives kept)))
       where
         cs : List Instruction
-        cs = forall_assignments_code over when xs
+        cs = forall_assignments_code over when (option_map anchor_code beside) xs
 
-        long : pc + 2 + length cs ≡ pc + length (forall_assignments_code over when (x ∷ xs))
+        long : pc + 2 + length cs ≡ pc + length (forall_assignments_code over when (option_map anchor_code beside) (x ∷ xs))
         long = omega arith
 
         at_rest : HasAt code (pc + 2) cs
         at_rest = let e : pc + 1 + 1 ≡ pc + 2 = omega arith in subst (λ at. HasAt code at cs) e has.1.1
 
         p : Assignment
-        p = forall_assignment over when x
+        p = forall_assignment over when (option_map anchor_code beside) x
 
         entry : Trail
-        entry = reached x.line s (ElementsAssigned (is_some when) axes x.array x.subscripts x.right)
+        entry = reached x.line s (ElementsAssigned (is_some when) beside axes x.array x.subscripts x.right)
 
         those : IsTrail moves (note (ParForall p) slots) entry
         those = (
           record {
             scalars = λ k lk. holds.scalars k (omega (arith, lk, holds.places));
-            event = (refl, (axes, x.subscripts, x.right, refl, gives, refl, refl, (λ w e. masks w e ∙ sym holds.places), subst (λ k. AreSubscripts k x.subscripts) (sym holds.places) ok.1, subst (λ k. IsIndexed k x.right) (sym holds.places) ok.2));
+            event = (
+              refl,
+              (
+                beside,
+                axes,
+                x.subscripts,
+                x.right,
+                refl,
+                gives,
+                refl,
+                refl,
+                (λ w e. masks w e ∙ sym holds.places),
+                subst (λ k. AreSubscripts k x.subscripts) (sym holds.places) ok.1,
+                subst (λ k. IsIndexed k x.right) (sym holds.places) ok.2,
+                (refl, subst (λ k. IsAnchorText k beside) (sym holds.places) anchored),
+              ),
+            );
           },
           tt,
         )
@@ -344,15 +363,21 @@ module _ (table : ArrayTable) (row_count : ℕ) (moves : ℕ → List NewMapping
 
     module _ (sized : (layouts : List Layout) (anchor : Option Anchor) (ms : List ℕ) → size_of (table.copies layouts anchor ms) ≡ space_count ms) (body : List ElementAssignment) (ok_body : AreIndexedAssignments n body)
         (all : space_count ns ≡ product ns) where
+      abbrev beside : Option AnchorText
+      beside = forall_anchor body
+
+      anchored : IsAnchorText n beside
+      anchored = forall-anchored n body ok_body
+
       after-goes : (mask : Option Term) (pc : ℕ) (slots : List ℤ) (rows : Storage) (s : State) → IsIndexedMask n mask
-          → HasAt code pc (forall_mask_code n line over mask ++ forall_assignments_code over (option_map (λ t. where_true n true) mask) body)
+          → HasAt code pc (forall_mask_code n line over (forall_beside body) mask ++ forall_assignments_code over (option_map (λ t. where_true n true) mask) (forall_beside body) body)
           → Holds table row_count moves code n many None s slots rows → Gives slots
           → Goes table row_count moves code n many None leave again (forall_parts_trail line axes mask body s)
-          (pc + length (forall_mask_code n line over mask ++ forall_assignments_code over (option_map (λ t. where_true n true) mask) body)) b1 slots
+          (pc + length (forall_mask_code n line over (forall_beside body) mask ++ forall_assignments_code over (option_map (λ t. where_true n true) mask) (forall_beside body) body)) b1 slots
           (stands table row_count moves code pc slots rows s.printed) (after line mask body axes (product ns) s)
-      after-goes None pc slots rows s ok has holds gives = assigns-all all None None (λ t. true) (λ w e. cc) (λ s slots rows h t values. refl) body pc slots rows s ok_body has holds gives
+      after-goes None pc slots rows s ok has holds gives = assigns-all all None None beside (λ t. true) (λ w e. cc) anchored (λ s slots rows h t values. refl) body pc slots rows s ok_body has holds gives
       after-goes (Some t) pc slots rows s ok has holds gives =
-          goes-at table row_count moves code n many None leave again (forall_parts_trail line axes (Some t) body s) to (pc + length (forall_mask_code n line over (Some t) ++ cs)) b1 slots (stands table row_count moves code pc slots rows s.printed)
+          goes-at table row_count moves code n many None leave again (forall_parts_trail line axes (Some t) body s) to (pc + length (forall_mask_code n line over (forall_beside body) (Some t) ++ cs)) b1 slots (stands table row_count moves code pc slots rows s.printed)
           (after line (Some t) body axes (product ns) s) long
           (subst (Goes table row_count moves code n many None leave again (forall_parts_trail line axes (Some t) body s) to b1 slots (stands table row_count moves code pc slots rows s.printed))
           (sym (value-bind line s (each (indices_at axes) (λ u. value (indices_at axes u) s t) (product ns)) (λ vs. Ok (mask_of vs))
@@ -360,34 +385,50 @@ module _ (table : ArrayTable) (row_count : ℕ) (moves : ℕ → List NewMapping
           (goes-as table row_count moves code n many None leave again (entry ++ after_value (each (indices_at axes) (λ u. value (indices_at axes u) s t) (product ns)) made) (forall_parts_trail line axes (Some t) body s) to b1 slots
           (stands table row_count moves code pc slots rows s.printed)
           (with_value line s (each (indices_at axes) (λ u. value (indices_at axes u) s t) (product ns)) (λ vs. assign_all_forall axes (product ns) (mask_of vs) body s))
-          (ap (λ T. entry ++ T) (sym (after-made (each (indices_at axes) (λ u. value (indices_at axes u) s t) (product ns)) mask_of (λ m. forall_trail true axes (product ns) m body s))))
-          (copy-goes table row_count moves code n many leave again sized line b1 pc to (index_form t) over (ParForallCopy n p) (forall_mask_tuples table.shapes p) refl
+          (ap (λ T. entry ++ T) (sym (after-made (each (indices_at axes) (λ u. value (indices_at axes u) s t) (product ns)) mask_of (λ m. forall_trail true beside axes (product ns) m body s))))
+          (copy-goes table row_count moves code n many leave again sized line b1 pc to (index_form t) over (forall_beside body) (ParForallCopy n p) (forall_mask_tuples table.shapes p) refl
           (has.0, (has.1.0, (has.1.1.0, tt))) slots rows s holds ns (extents-are slots gives) (ap space_count (extents-are slots gives) ∙ all) all (indices_at axes)
           (λ u. value (indices_at axes u) s t)
           does entry those made (λ vs. assign_all_forall axes (product ns) (mask_of vs) body s) goes)))
         where
           p : Evaluation
-          p = record { line = line; form = index_form t; over = over }
+          p = record { line = line; form = index_form t; over = over; beside = forall_beside body }
 
           entry : Trail
-          entry = reached line s (ForallMask axes t)
+          entry = reached line s (ForallMask beside axes t)
 
           those : IsTrail moves (note (ParForallCopy n p) slots) entry
           those = (
-            record { scalars = λ k lk. holds.scalars k (omega (arith, lk, holds.places)); event = (refl, (axes, t, refl, gives, refl, sym holds.places, subst (λ k. IsIndexed k t) (sym holds.places) ok)) },
+            record {
+              scalars = λ k lk. holds.scalars k (omega (arith, lk, holds.places));
+              event = (
+                refl,
+                (
+                  beside,
+                  axes,
+                  t,
+                  refl,
+                  gives,
+                  refl,
+                  sym holds.places,
+                  subst (λ k. IsIndexed k t) (sym holds.places) ok,
+                  (refl, subst (λ k. IsAnchorText k beside) (sym holds.places) anchored),
+                ),
+              );
+            },
             tt,
           )
 
           made : List ℤ → Trail
-          made vs = forall_trail true axes (product ns) (mask_of vs) body s
+          made vs = forall_trail true beside axes (product ns) (mask_of vs) body s
 
           cs : List Instruction
-          cs = forall_assignments_code over (Some (where_true n true)) body
+          cs = forall_assignments_code over (Some (where_true n true)) (forall_beside body) body
 
           to : ℕ
           to = pc + 3 + length cs
 
-          long : to ≡ pc + length (forall_mask_code n line over (Some t) ++ cs)
+          long : to ≡ pc + length (forall_mask_code n line over (forall_beside body) (Some t) ++ cs)
           long = omega arith
 
           does-at : (rows1 : Storage) → HoldsArrays n table.shapes s rows1 → (y : List ℤ)
@@ -415,7 +456,7 @@ module _ (table : ArrayTable) (row_count : ℕ) (moves : ℕ → List NewMapping
               let e : pc + 1 + 1 + 1 ≡ pc + 3 = omega arith in
               forget table row_count moves code n many leave again sized (made vs) (Some vs) to b1 slots (stands table row_count moves code (pc + 3) slots rows3 s.printed)
               (assign_all_forall axes (product ns) (mask_of vs) body s)
-              (assigns-all all (Some vs) (Some (where_true n true)) (mask_of vs) (λ w' e. sym (ap (λ (x : When). x.copy) (same_Some (where_true n true) w' e))) (asked vs) body (pc + 3) slots rows3 s ok_body (subst (λ at. HasAt code at cs) e has.1.1.1) holds3
+              (assigns-all all (Some vs) (Some (where_true n true)) beside (mask_of vs) (λ w' e. sym (ap (λ (x : When). x.copy) (same_Some (where_true n true) w' e))) anchored (asked vs) body (pc + 3) slots rows3 s ok_body (subst (λ at. HasAt code at cs) e has.1.1.1) holds3
               gives)
 
   -- ---- the statement
@@ -447,7 +488,7 @@ module _ (table : ArrayTable) (row_count : ℕ) (moves : ℕ → List NewMapping
       c2 = one_to_one_code over' body
 
       c3 : List Instruction
-      c3 = forall_mask_code n line over' mask ++ forall_assignments_code over' (option_map (λ t. where_true n true) mask) body
+      c3 = forall_mask_code n line over' (forall_beside body) mask ++ forall_assignments_code over' (option_map (λ t. where_true n true) mask) (forall_beside body) body
 
       tail : List Instruction
       tail = ForallLimits line over' (map index_flat (all_subscripts mask body)) ∷ (c2 ++ c3)

@@ -5,10 +5,11 @@ use Rattle.std.specs.List.{AllByRecursion}
 use Rattle.op_tables.specs.declared.join.Join.{Join}
 use Rattle.op_tables.specs.declared.op.Op.TheVariants as op
 use Rattle.node_code.specs.Flat.{Flat, Slot, Int, Axis, Read, Operated, NoFlat, AndFlat}
+use Rattle.node_code.specs.Anchors.{FlatAnchor}
 use Rattle.node_code.specs.Forms.{Sub}
 use Rattle.node_code.specs.Parallel.{When}
 use Rattle.node_code.specs.NestStatements.{NestStatement}
-use Rattle.code_meaning.specs.ValidCode.{CodeTable, IsCopy, IsFlat, IsValue, IsSpace, IsNestForm, IsNestLeft, IsValid}
+use Rattle.code_meaning.specs.ValidCode.{CodeTable, IsAnchor, IsCopy, IsFlat, IsValue, IsSpace, IsNestForm, IsNestLeft, IsValid}
 use Rattle.node_code.specs.Instructions.{Instruction, Set, Trips, Jump, JumpIfZero, Verdict, FoldCopy, LastCopy, ParNest, MakeCopies}
 use Rattle.nest_syntax.specs.Asked.{Asked, guard_asked, none_asked, tested_asked}
 use Rattle.nest_syntax.specs.Finals.{Final, Folds, Lasts}
@@ -28,7 +29,7 @@ pub record IsOfNests (P : Instruction → Type 0) (line least : ℕ) : Type 0 wh
   pub jump : (target : ℕ) → P (Jump target)
   pub jump_if : (target x : ℕ) → P (JumpIfZero target x)
   pub par : (p : NestStatement) → P (ParNest p)
-  pub makes : (copy : ℕ) (over : List Sub) (start : Flat) → least ≤ copy → P (MakeCopies copy over start)
+  pub makes : (copy : ℕ) (over : List Sub) (start : Flat) (beside : Option FlatAnchor) → least ≤ copy → P (MakeCopies copy over start beside)
   pub verdict : P Verdict
   pub folds : (copy : ℕ) (j : Join) (x : ℕ) → P (FoldCopy copy j x)
   pub lasts : (copy set x : ℕ) → P (LastCopy copy set x)
@@ -38,7 +39,7 @@ abbrev pub IsFinalFrom : ℕ → Final → Type 0
 IsFinalFrom least (Folds j r x) = least ≤ r
 IsFinalFrom least (Lasts r q x) = (least ≤ r) × (least ≤ q)
 
-module _ (P : Instruction → Type 0) (line least : ℕ) (each : IsOfNests P line least) (over : List Sub) where
+module _ (P : Instruction → Type 0) (line least : ℕ) (each : IsOfNests P line least) (over : List Sub) (beside : Option FlatAnchor) where
   abbrev Each : List Instruction → Type 0
   Each = AllByRecursion P
 
@@ -47,14 +48,14 @@ module _ (P : Instruction → Type 0) (line least : ℕ) (each : IsOfNests P lin
   each-final (Folds j r x ∷ fs) = (each.folds r j x, each-final fs)
   each-final (Lasts r q x ∷ fs) = (each.lasts r q x, each-final fs)
 
-  each-made : (fs : List Final) → AllByRecursion (IsFinalFrom least) fs → Each (finals_makes line over fs)
+  each-made : (fs : List Final) → AllByRecursion (IsFinalFrom least) fs → Each (finals_makes line over beside fs)
   each-made [] h = tt
-  each-made (Folds j r x ∷ fs) h = (each.makes r over _ h.0, each-made fs h.1)
-  each-made (Lasts r q x ∷ fs) h = (each.makes r over _ h.0.0, (each.makes q over _ h.0.1, each-made fs h.1))
+  each-made (Folds j r x ∷ fs) h = (each.makes r over _ beside h.0, each-made fs h.1)
+  each-made (Lasts r q x ∷ fs) h = (each.makes r over _ beside h.0.0, (each.makes q over _ beside h.0.1, each-made fs h.1))
 
-  each-condition : (stored count : ℕ) → least ≤ stored → Each (conditions_makes line over stored count)
+  each-condition : (stored count : ℕ) → least ≤ stored → Each (conditions_makes line over beside stored count)
   each-condition stored zero le = tt
-  each-condition stored (suc count) le = both P (conditions_makes line over stored count) _ (each-condition stored count le) (each.makes (stored + count) over _ (omega (arith, le)), tt)
+  each-condition stored (suc count) le = both P (conditions_makes line over beside stored count) _ (each-condition stored count le) (each.makes (stored + count) over _ beside (omega (arith, le)), tt)
 
   each-loop : (bounds : FlatBounds) (b pc : ℕ) (body : List Instruction) → Each body → Each (loop_instructions line bounds b pc body)
   each-loop bounds b pc body h = (
@@ -75,40 +76,40 @@ module _ (P : Instruction → Type 0) (line least : ℕ) (each : IsOfNests P lin
   )
 
   module _ {A C : Type 0} (text_of : A → NestText) (test_of : C → NestTest) (stored : ℕ) (le : least ≤ stored) where
-    each-mark : (guard o : Option ℕ) → Each (mark_instructions line over text_of test_of stored guard o)
+    each-mark : (guard o : Option ℕ) → Each (mark_instructions line over beside text_of test_of stored guard o)
     each-mark guard None = tt
     each-mark guard (Some r) = (each.par _, tt)
 
-    each-test : (earlier : List ℕ) (guard : Option ℕ) (c : Option C) (copy : ℕ) → P (test_instruction line over text_of test_of stored (tested_asked guard earlier) c copy)
+    each-test : (earlier : List ℕ) (guard : Option ℕ) (c : Option C) (copy : ℕ) → P (test_instruction line over beside text_of test_of stored (tested_asked guard earlier) c copy)
     each-test earlier guard None copy = each.par _
     each-test earlier guard (Some c) copy = each.par _
 
     mutual
-      each-body : (body : NestBody A C) (guard : Option ℕ) (k b pc : ℕ) → Each (body_instructions line over text_of test_of stored body guard k b pc)
+      each-body : (body : NestBody A C) (guard : Option ℕ) (k b pc : ℕ) → Each (body_instructions line over beside text_of test_of stored body guard k b pc)
       each-body NoText guard k b pc = tt
       each-body (AndText a rest) guard k b pc =
-          (each.par _, both P (mark_instructions line over text_of test_of stored guard (text_of a).mark) _ (each-mark guard (text_of a).mark) (each-body rest guard k b _))
+          (each.par _, both P (mark_instructions line over beside text_of test_of stored guard (text_of a).mark) _ (each-mark guard (text_of a).mark) (each-body rest guard k b _))
       each-body (AndIf arms rest) guard k b pc =
-          both P (arms_instructions line over text_of test_of stored arms guard [] k b pc) _ (each-arms arms guard [] k b pc) (each-body rest guard _ b _)
+          both P (arms_instructions line over beside text_of test_of stored arms guard [] k b pc) _ (each-arms arms guard [] k b pc) (each-body rest guard _ b _)
       each-body (AndLoop bounds inner rest) guard k b pc =
-          both P (loop_instructions line bounds b pc (body_instructions line over text_of test_of stored inner guard k (b + 4) (pc + 5))) _
+          both P (loop_instructions line bounds b pc (body_instructions line over beside text_of test_of stored inner guard k (b + 4) (pc + 5))) _
           (each-loop bounds b pc _ (each-body inner guard k (b + 4) (pc + 5))) (each-body rest guard _ b _)
 
-      each-arms : (arms : NestArms A C) (guard : Option ℕ) (earlier : List ℕ) (k b pc : ℕ) → Each (arms_instructions line over text_of test_of stored arms guard earlier k b pc)
+      each-arms : (arms : NestArms A C) (guard : Option ℕ) (earlier : List ℕ) (k b pc : ℕ) → Each (arms_instructions line over beside text_of test_of stored arms guard earlier k b pc)
       each-arms NoArm guard earlier k b pc = tt
       each-arms (AndArm test body others) guard earlier k b pc = (
-        each.makes (stored + k) over _ (omega (arith, le)),
+        each.makes (stored + k) over _ beside (omega (arith, le)),
         (
           each-test earlier guard test (stored + k),
-          both P (body_instructions line over text_of test_of stored body (Some k) (k + 1) b (pc + 2)) _ (each-body body (Some k) (k + 1) b (pc + 2)) (each-arms others guard (k ∷ earlier) _ b _),
+          both P (body_instructions line over beside text_of test_of stored body (Some k) (k + 1) b (pc + 2)) _ (each-body body (Some k) (k + 1) b (pc + 2)) (each-arms others guard (k ∷ earlier) _ b _),
         ),
       )
 
-    pub each-statement : (fs : List Final) → AllByRecursion (IsFinalFrom least) fs → (body : NestBody A C) (b pc : ℕ) → Each (nest_instructions line over text_of test_of stored fs body b pc)
+    pub each-statement : (fs : List Final) → AllByRecursion (IsFinalFrom least) fs → (body : NestBody A C) (b pc : ℕ) → Each (nest_instructions line over beside text_of test_of stored fs body b pc)
     each-statement fs froms body b pc =
-        let c = finals_makes line over fs ++ conditions_makes line over stored (count_nest body) in
-        both P c _ (both P (finals_makes line over fs) _ (each-made fs froms) (each-condition stored (count_nest body) le))
-        (both P (body_instructions line over text_of test_of stored body None 0 b (pc + length c)) _ (each-body body None 0 b (pc + length c)) (each.verdict, each-final fs))
+        let c = finals_makes line over beside fs ++ conditions_makes line over beside stored (count_nest body) in
+        both P c _ (both P (finals_makes line over beside fs) _ (each-made fs froms) (each-condition stored (count_nest body) le))
+        (both P (body_instructions line over beside text_of test_of stored body None 0 b (pc + length c)) _ (each-body body None 0 b (pc + length c)) (each.verdict, each-final fs))
 
 -- ---- what the code of statements names
 
@@ -147,10 +148,12 @@ module _ (table : CodeTable) (line : ℕ) (over : List Sub) (space : IsSpace tab
   value-good (Read k) ok = ok
   value-good (Operated o fs) ok = ok.1
 
-  made-good : (fs : List Final) → AllByRecursion IsGoodFinal fs → AllValid (finals_makes line over fs)
-  made-good [] h = tt
-  made-good (Folds j r x ∷ fs) h = ((h.0.0, space, tt), made-good fs h.1)
-  made-good (Lasts r q x ∷ fs) h = ((h.0.0, space, h.0.2), ((h.0.1, space, tt), made-good fs h.1))
+  -- what the copies lie beside
+  module _ (beside : Option FlatAnchor) (anchored : IsAnchor table (length over) beside) where
+    made-good : (fs : List Final) → AllByRecursion IsGoodFinal fs → AllValid (finals_makes line over beside fs)
+    made-good [] h = tt
+    made-good (Folds j r x ∷ fs) h = ((h.0.0, space, tt, anchored), made-good fs h.1)
+    made-good (Lasts r q x ∷ fs) h = ((h.0.0, space, h.0.2, anchored), ((h.0.1, space, tt, anchored), made-good fs h.1))
 
   finals-good : (fs : List Final) → AllByRecursion IsGoodFinal fs → AllValid (finals_instructions line fs)
   finals-good [] h = tt
@@ -193,8 +196,8 @@ module _ (table : CodeTable) (line : ℕ) (over : List Sub) (space : IsSpace tab
       ArmsAreGood NoArm = ⊤
       ArmsAreGood (AndArm test body others) = IsGoodCondition test × AreGood body × ArmsAreGood others
 
-    -- so many stored conditions have rows
-    module _ (stored count : ℕ) (rows : (k : ℕ) → k < count → IsCopy table (stored + k)) where
+    -- so many stored conditions have rows, and the copies lie beside this
+    module _ (stored count : ℕ) (rows : (k : ℕ) → k < count → IsCopy table (stored + k)) (beside : Option FlatAnchor) (anchored : IsAnchor table (length over) beside) where
       abbrev IsCounted : Asked → Type 0
       IsCounted w = w.number < count
 
@@ -214,19 +217,20 @@ module _ (table : CodeTable) (line : ℕ) (over : List Sub) (space : IsSpace tab
       whens-good [] h = tt
       whens-good (w ∷ ws) h = (rows w.number h.0, whens-good ws h.1)
 
-      mark-good : (guard o : Option ℕ) → IsGuard guard → IsMarkRow o → AllValid (mark_instructions line over text_of test_of stored guard o)
+      mark-good : (guard o : Option ℕ) → IsGuard guard → IsMarkRow o → AllValid (mark_instructions line over beside text_of test_of stored guard o)
       mark-good guard None h row = tt
       mark-good guard (Some r) h row =
-          (record { over = space; whens = whens-good (guard_asked guard) (guard-counted guard h); copies = tt; left = row; right = tt }, tt)
+          (record { over = space; whens = whens-good (guard_asked guard) (guard-counted guard h); copies = tt; left = row; right = tt; beside = anchored }, tt)
 
       test-good : (guard : Option ℕ) (earlier : List ℕ) (c : Option C) (k : ℕ) → IsGuard guard → AllByRecursion (λ k. k < count) earlier → IsGoodCondition c → k < count
-          → IsValid table (test_instruction line over text_of test_of stored (tested_asked guard earlier) c (stored + k))
+          → IsValid table (test_instruction line over beside text_of test_of stored (tested_asked guard earlier) c (stored + k))
       test-good guard earlier None k h below good lt = record {
         over = space;
         whens = whens-good (tested_asked guard earlier) (both IsCounted (guard_asked guard) (none_asked earlier) (guard-counted guard h) (none-counted earlier below));
         copies = tt;
         left = rows k lt;
         right = tt;
+        beside = anchored;
       }
       test-good guard earlier (Some c) k h below good lt = record {
         over = space;
@@ -234,28 +238,29 @@ module _ (table : CodeTable) (line : ℕ) (over : List Sub) (space : IsSpace tab
         copies = good.copies;
         left = rows k lt;
         right = good.form;
+        beside = anchored;
       }
 
       mutual
         body-good : (body : NestBody A C) (guard : Option ℕ) (k b pc : ℕ) → AreGood body → IsGuard guard → k + count_nest body ≤ count → b + slots_of_nest body ≤ table.slots
-            → pc + length (body_instructions line over text_of test_of stored body guard k b pc) < table.places
-            → AllValid (body_instructions line over text_of test_of stored body guard k b pc)
+            → pc + length (body_instructions line over beside text_of test_of stored body guard k b pc) < table.places
+            → AllValid (body_instructions line over beside text_of test_of stored body guard k b pc)
         body-good NoText guard k b pc good h few le within = tt
         body-good (AndText a rest) guard k b pc good h few le within =
-            let marks = mark_instructions line over text_of test_of stored guard (text_of a).mark in
-            let others = body_instructions line over text_of test_of stored rest guard k b (pc + length (text_instructions line over text_of test_of stored guard a)) in (
-              record { over = space; whens = whens-good (guard_asked guard) (guard-counted guard h); copies = good.0.copies; left = good.0.left; right = good.0.right },
+            let marks = mark_instructions line over beside text_of test_of stored guard (text_of a).mark in
+            let others = body_instructions line over beside text_of test_of stored rest guard k b (pc + length (text_instructions line over beside text_of test_of stored guard a)) in (
+              record { over = space; whens = whens-good (guard_asked guard) (guard-counted guard h); copies = good.0.copies; left = good.0.left; right = good.0.right; beside = anchored },
               both (IsValid table) marks others (mark-good guard (text_of a).mark h good.0.mark) (body-good rest guard k b _ good.1 h few le (omega (arith, within, length-append marks others))),
             )
         body-good (AndIf arms rest) guard k b pc good h few le within =
-            let first = arms_instructions line over text_of test_of stored arms guard [] k b pc in
-            let others = body_instructions line over text_of test_of stored rest guard (k + count_nest_arms arms) b (pc + length first) in
+            let first = arms_instructions line over beside text_of test_of stored arms guard [] k b pc in
+            let others = body_instructions line over beside text_of test_of stored rest guard (k + count_nest_arms arms) b (pc + length first) in
             both (IsValid table) first others (arms-good arms guard [] k b pc good.0 h tt (omega (arith, few)) (omega (arith, le)) (omega (arith, within, length-append first others)))
             (body-good rest guard _ b _ good.1 h (omega (arith, few)) (omega (arith, le)) (omega (arith, within, length-append first others)))
         body-good (AndLoop bounds inner rest) guard k b pc good h few le within =
-            let own = body_instructions line over text_of test_of stored inner guard k (b + 4) (pc + 5) in
+            let own = body_instructions line over beside text_of test_of stored inner guard k (b + 4) (pc + 5) in
             let first = loop_instructions line bounds b pc own in
-            let others = body_instructions line over text_of test_of stored rest guard (k + count_nest inner) b (pc + length first) in
+            let others = body_instructions line over beside text_of test_of stored rest guard (k + count_nest inner) b (pc + length first) in
             let tail = tail_instructions line bounds b (pc + 5) (pc + 5 + length own + 5) in
             let here : pc + length first < table.places = omega (arith, within, length-append first others) in
             both (IsValid table) first others
@@ -265,14 +270,14 @@ module _ (table : CodeTable) (line : ℕ) (over : List Sub) (space : IsSpace tab
 
         arms-good : (arms : NestArms A C) (guard : Option ℕ) (earlier : List ℕ) (k b pc : ℕ) → ArmsAreGood arms → IsGuard guard → AllByRecursion (λ k. k < count) earlier
             → k + count_nest_arms arms ≤ count → b + slots_of_arms arms ≤ table.slots
-            → pc + length (arms_instructions line over text_of test_of stored arms guard earlier k b pc) < table.places
-            → AllValid (arms_instructions line over text_of test_of stored arms guard earlier k b pc)
+            → pc + length (arms_instructions line over beside text_of test_of stored arms guard earlier k b pc) < table.places
+            → AllValid (arms_instructions line over beside text_of test_of stored arms guard earlier k b pc)
         arms-good NoArm guard earlier k b pc good h below few le within = tt
         arms-good (AndArm test body others) guard earlier k b pc good h below few le within =
-            let own = body_instructions line over text_of test_of stored body (Some k) (k + 1) b (pc + 2) in
-            let rest = arms_instructions line over text_of test_of stored others guard (k ∷ earlier) (k + 1 + count_nest body) b (pc + 2 + length own) in
+            let own = body_instructions line over beside text_of test_of stored body (Some k) (k + 1) b (pc + 2) in
+            let rest = arms_instructions line over beside text_of test_of stored others guard (k ∷ earlier) (k + 1 + count_nest body) b (pc + 2 + length own) in
             let lt : k < count = omega (arith, few) in (
-              (rows k lt, space, tt),
+              (rows k lt, space, tt, anchored),
               (
                 test-good guard earlier test k h below good.0 lt,
                 both (IsValid table) own rest (body-good body (Some k) (k + 1) b (pc + 2) good.1 lt (omega (arith, few)) (omega (arith, le)) (omega (arith, within, length-append own rest)))
@@ -280,18 +285,18 @@ module _ (table : CodeTable) (line : ℕ) (over : List Sub) (space : IsSpace tab
               ),
             )
 
-      conditions-good : (c : ℕ) → c ≤ count → AllValid (conditions_makes line over stored c)
+      conditions-good : (c : ℕ) → c ≤ count → AllValid (conditions_makes line over beside stored c)
       conditions-good zero le = tt
-      conditions-good (suc c) le = both (IsValid table) (conditions_makes line over stored c) _ (conditions-good c (omega (arith, le))) ((rows c (omega (arith, le)), space, tt), tt)
+      conditions-good (suc c) le = both (IsValid table) (conditions_makes line over beside stored c) _ (conditions-good c (omega (arith, le))) ((rows c (omega (arith, le)), space, tt, anchored), tt)
 
       pub statements-good : (fs : List Final) (body : NestBody A C) (b pc : ℕ) → AllByRecursion IsGoodFinal fs → AreGood body → count_nest body ≤ count → b + slots_of_nest body ≤ table.slots
-          → pc + length (nest_instructions line over text_of test_of stored fs body b pc) < table.places
-          → AllValid (nest_instructions line over text_of test_of stored fs body b pc)
+          → pc + length (nest_instructions line over beside text_of test_of stored fs body b pc) < table.places
+          → AllValid (nest_instructions line over beside text_of test_of stored fs body b pc)
       statements-good fs body b pc finals good few le within =
-          let c = finals_makes line over fs ++ conditions_makes line over stored (count_nest body) in
-          let own = body_instructions line over text_of test_of stored body None 0 b (pc + length c) in
+          let c = finals_makes line over beside fs ++ conditions_makes line over beside stored (count_nest body) in
+          let own = body_instructions line over beside text_of test_of stored body None 0 b (pc + length c) in
           let rest = Verdict ∷ finals_instructions line fs in
-          both (IsValid table) c (own ++ rest) (both (IsValid table) (finals_makes line over fs) _ (made-good fs finals) (conditions-good (count_nest body) few))
+          both (IsValid table) c (own ++ rest) (both (IsValid table) (finals_makes line over beside fs) _ (made-good beside anchored fs finals) (conditions-good (count_nest body) few))
           (both (IsValid table) own rest
           (body-good body None 0 b (pc + length c) good tt (omega (arith, few)) le (omega (arith, within, length-append c (own ++ rest), length-append own rest)))
           (tt, finals-good fs finals))

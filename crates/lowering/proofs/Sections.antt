@@ -16,35 +16,43 @@ use Rattle.hpf_base.specs.ElementOrder.{product}
 use Rattle.lowered_expressions.proofs.Goes.{Holds, kept-refl, Goes, goes-on, goes-at, goes-value, ends-bind}
 use Rattle.lowering.proofs.Parts.{SubsGive, FormGives, subscripts-come, parts-come}
 use Rattle.std.specs.Prelude.{is_some, option_map}
+use Rattle.statement_trail.specs.Anchors.{AnchorText}
 use Rattle.statement_trail.specs.Trail.{Trail, SectionAssigned, after_value, reached, selections_trail, elemental_trail, section_trail}
+use Rattle.lowered_expressions.specs.Anchors.{IsBeside, IsForeknown}
 use Rattle.lowered_expressions.specs.Passed.{IsMaskCopy, note, IsTrail}
 use Rattle.lowered_expressions.proofs.Reach.{still, HasAt, has-front, has-back, SameBelow, same-refl, same-on, stands, one, Place}
 use Rattle.lowering.proofs.Storing.{masked-does, stores-go}
 use Rattle.lowered_expressions.proofs.Scatter.{space-size, space-counted, Does, values_of, NamesBelow}
 use Rattle.program_code.specs.ExpressionCode.{subscripts_slots, subs_of, subscripts_code, parts_slots, parts_code, form_of}
 use Rattle.lowered_expressions.specs.WellFormed.{AreScalarSubscripts, IsArray}
-use Rattle.program_code.specs.StatementCode.{assignment, assignment_code}
+use Rattle.program_code.specs.StatementCode.{Masking, assignment, assignment_code}
 use Rattle.machine_steps.specs.Instr.{Running, Outcome}
 use Rattle.machine_steps.specs.Space.{space_count}
 use Rattle.machine_steps.specs.Machine as machine
 use Rattle.machine_steps.specs.Machine.{effect_of, value_by}
 use Rattle.storage.specs.Storage.{Storage, read}
-use Rattle.node_code.specs.Forms.{Sub}
 use Rattle.code_meaning.specs.Forms.{selections_in, elemental_in}
-use Rattle.node_code.specs.Parallel.{When, Assignment}
+use Rattle.node_code.specs.Parallel.{Assignment}
 use Rattle.code_meaning.specs.Parallel.{assignment_tuples, assigned_spot, at_line, assignment_size, mask_reads, is_asked, outcome_if, assigned_value, reads_at, spot_of}
 
-module _ (table : ArrayTable) (row_count : ℕ) (moves : ℕ → List NewMapping) (code : List Instruction) (n many : ℕ) (copy : Option (List ℤ)) (leave again : ℕ) (p : Assignment) (la : p.array < n) (masks : IsMaskCopy n p.mask) where
+module _ (table : ArrayTable) (row_count : ℕ) (moves : ℕ → List NewMapping) (code : List Instruction) (n many : ℕ) (copy : Option (List ℤ)) (leave again : ℕ) (p : Assignment) (la : p.array < n) (masks : IsMaskCopy n p.mask)
+    (beside : Option AnchorText) (lies : IsBeside n p.beside beside) (known : IsForeknown beside) where
   -- what the slots say, and which tuples are chosen
   module _ (b pc : ℕ) (has : HasAt code pc (Limits p ∷ Par p ∷ Verdict ∷ [])) (slots : List ℤ) (rows : Storage) (s : State) (holds : Holds table row_count moves code n many copy s slots rows)
       (ds : List Selection) (r : Elemental) (ns : List ℕ) (chosen : ℕ → Bool)
       (left : selections_in slots p.left ≡ ds) (right : elemental_in slots p.right ≡ r) (over : extents (selections_in slots p.over) ≡ ns) (named : NamesBelow n r)
       (mask : (t : ℕ) (values : List ℤ) → t < product ns → is_asked p.mask (values_of rows (mask_reads p.mask t) ++ values) ≡ chosen t) where
     abbrev entry : Trail
-    entry = reached p.line s (SectionAssigned (is_some p.mask) ns p.array ds r)
+    entry = reached p.line s (SectionAssigned (is_some p.mask) beside ns p.array ds r)
 
     those : IsTrail moves (note (Par p) slots) entry
-    those = (record { scalars = λ k lk. holds.scalars k (omega (arith, lk, holds.places)); event = (refl, rw (left, right, over) refl, λ w e. masks w e ∙ sym holds.places) }, tt)
+    those = (
+      record {
+        scalars = λ k lk. holds.scalars k (omega (arith, lk, holds.places));
+        event = (refl, (beside, rw (left, right, over) refl, (λ w e. masks w e ∙ sym holds.places), subst (λ k. IsBeside k p.beside beside) (sym holds.places) lies, known));
+      },
+      tt,
+    )
 
     abbrev outcome : ℕ → Outcome Fault
     outcome = machine.outcome_of (assignment_tuples table.shapes p) slots (read rows)
@@ -77,7 +85,7 @@ module _ (table : ArrayTable) (row_count : ℕ) (moves : ℕ → List NewMapping
         (pc + 1) la has.1 slots rows s holds (product ns) (ap space_count over ∙ all) (positions ns) at_a_tuple tuple-is entry those)
 
     -- the shapes and limits first
-    pub assigned-goes : Goes table row_count moves code n many copy leave again (after_value (space_size ns (ds ∷ sections r)) (λ k. reached p.line s (SectionAssigned (is_some p.mask) ns p.array ds r))) (pc + 3) b slots (end pc rows) (one_step p.line s (assign_elemental ns chosen p.array ds r s))
+    pub assigned-goes : Goes table row_count moves code n many copy leave again (after_value (space_size ns (ds ∷ sections r)) (λ k. reached p.line s (SectionAssigned (is_some p.mask) beside ns p.array ds r))) (pc + 3) b slots (end pc rows) (one_step p.line s (assign_elemental ns chosen p.array ds r s))
     assigned-goes =
         subst (Goes table row_count moves code n many copy leave again (after_value (space_size ns (ds ∷ sections r)) (λ k. entry)) (pc + 3) b slots (end pc rows))
         (sym (ends-bind p.line s (space_size ns (ds ∷ sections r)) (λ k. each (positions ns) at_a_tuple k >>= (λ stores. Ok (store_all s p.array stores)))))
@@ -121,28 +129,29 @@ module _ (table : ArrayTable) (row_count : ℕ) (moves : ℕ → List NewMapping
 
 module _ (table : ArrayTable) (row_count : ℕ) (moves : ℕ → List NewMapping) (code : List Instruction) (n many : ℕ) (copy : Option (List ℤ)) (leave again : ℕ) where
   -- what an assignment to a section passes
-  abbrev pub assigned_trail : (line a : ℕ) (rs : SectionSubscripts) (t : Term) (masked : Bool) (shape : List Selection → List ℕ) → State → Trail
-  assigned_trail line a rs t masked shape s =
+  abbrev pub assigned_trail : (line a : ℕ) (rs : SectionSubscripts) (t : Term) (masked : Bool) (beside : Option AnchorText) (shape : List Selection → List ℕ) → State → Trail
+  assigned_trail line a rs t masked beside shape s =
       selections_trail line s rs ++ after_value (selections [] s rs) (λ ds.
       elemental_trail line s t ++ after_value (elemental [] s t) (λ r.
-      after_value (space_size (shape ds) (ds ∷ sections r)) (λ k. reached line s (SectionAssigned masked (shape ds) a ds r))))
+      after_value (space_size (shape ds) (ds ∷ sections r)) (λ k. reached line s (SectionAssigned masked beside (shape ds) a ds r))))
 
-  abbrev pub left_trail : (line a : ℕ) (t : Term) (masked : Bool) (shape : List Selection → List ℕ) → State → List Selection → Trail
-  left_trail line a t masked shape s ds =
+  abbrev pub left_trail : (line a : ℕ) (t : Term) (masked : Bool) (beside : Option AnchorText) (shape : List Selection → List ℕ) → State → List Selection → Trail
+  left_trail line a t masked beside shape s ds =
       elemental_trail line s t ++ after_value (elemental [] s t) (λ r.
-      after_value (space_size (shape ds) (ds ∷ sections r)) (λ k. reached line s (SectionAssigned masked (shape ds) a ds r)))
+      after_value (space_size (shape ds) (ds ∷ sections r)) (λ k. reached line s (SectionAssigned masked beside (shape ds) a ds r)))
 
   -- an assignment to a section, over its own shape or over a mask's
-  pub assignment-goes : (line b pc a : ℕ) (rs : SectionSubscripts) (t : Term) (m : Option (List Sub × When)) (slots : List ℤ) (rows : Storage) (s : State)
-      (shape : List Selection → List ℕ) (chosen : ℕ → Bool) → IsMaskCopy n (option_map (λ m. m.1) m) → a < n → AreScalarSubscripts n rs → IsArray n t → HasAt code pc (assignment_code line b a rs t m)
+  pub assignment-goes : (line b pc a : ℕ) (rs : SectionSubscripts) (t : Term) (m : Option Masking) (slots : List ℤ) (rows : Storage) (s : State)
+      (shape : List Selection → List ℕ) (chosen : ℕ → Bool) → IsMaskCopy n (option_map (λ m. m.when) m)
+      → (beside : Option AnchorText) → IsBeside n (assignment line b a rs t m).beside beside → IsForeknown beside → a < n → AreScalarSubscripts n rs → IsArray n t → HasAt code pc (assignment_code line b a rs t m)
       → n ≤ b → b + (subscripts_slots rs + parts_slots t) ≤ many → Holds table row_count moves code n many copy s slots rows
       → ((later : List ℤ) (ds : List Selection) → SameBelow b slots later → selections_in later (subs_of b rs) ≡ ds
       → extents (selections_in later (assignment line b a rs t m).over) ≡ shape ds)
       → ((ds : List Selection) (u : ℕ) (values : List ℤ) → u < product (shape ds) → is_asked (assignment line b a rs t m).mask
       (values_of rows (mask_reads (assignment line b a rs t m).mask u) ++ values) ≡ chosen u)
-      → Goes table row_count moves code n many copy leave again (assigned_trail line a rs t (is_some (option_map (λ m. m.1) m)) shape s) (pc + length (assignment_code line b a rs t m)) b slots (stands table row_count moves code pc slots rows s.printed)
+      → Goes table row_count moves code n many copy leave again (assigned_trail line a rs t (is_some (option_map (λ m. m.when) m)) beside shape s) (pc + length (assignment_code line b a rs t m)) b slots (stands table row_count moves code pc slots rows s.printed)
       (one_step line s (selections [] s rs >>= (λ ds. elemental [] s t >>= (λ r. assign_elemental (shape ds) chosen a ds r s))))
-  assignment-goes line b pc a rs t m slots rows s shape chosen masks la oks ok has le few holds over mask =
+  assignment-goes line b pc a rs t m slots rows s shape chosen masks beside lies known la oks ok has le few holds over mask =
       let p = assignment line b a rs t m in
       let c1 = subscripts_code line b rs in
       let b1 : ℕ = b + subscripts_slots rs in
@@ -154,30 +163,30 @@ module _ (table : ArrayTable) (row_count : ℕ) (moves : ℕ → List NewMapping
       let to : ℕ = pc2 + 3 in
       let long : to ≡ pc + length (c1 ++ (c2 ++ last)) = omega (arith, length-append c1 (c2 ++ last), length-append c2 last) in
       let h1 : HasAt code pc1 (c2 ++ last) = has-back code pc c1 (c2 ++ last) has in
-      goes-at table row_count moves code n many copy leave again (assigned_trail line a rs t (is_some (option_map (λ m. m.1) m)) shape s) to (pc + length (c1 ++ (c2 ++ last))) b slots (stands table row_count moves code pc slots rows s.printed)
+      goes-at table row_count moves code n many copy leave again (assigned_trail line a rs t (is_some (option_map (λ m. m.when) m)) beside shape s) to (pc + length (c1 ++ (c2 ++ last))) b slots (stands table row_count moves code pc slots rows s.printed)
       (one_step line s (selections [] s rs >>= (λ ds. elemental [] s t >>= (λ r. assign_elemental (shape ds) chosen a ds r s)))) long
-      (subst (Goes table row_count moves code n many copy leave again (assigned_trail line a rs t (is_some (option_map (λ m. m.1) m)) shape s) to b slots (stands table row_count moves code pc slots rows s.printed))
+      (subst (Goes table row_count moves code n many copy leave again (assigned_trail line a rs t (is_some (option_map (λ m. m.when) m)) beside shape s) to b slots (stands table row_count moves code pc slots rows s.printed))
       (sym (ends-bind line s (selections [] s rs) (λ ds. elemental [] s t >>= (λ r. assign_elemental (shape ds) chosen a ds r s))))
-      (goes-value table row_count moves code n many copy leave again (selections_trail line s rs) (left_trail line a t (is_some (option_map (λ m. m.1) m)) shape s) line pc pc1 to b b1 slots rows s (SubsGive b1 (subs_of b rs)) (selections [] s rs)
+      (goes-value table row_count moves code n many copy leave again (selections_trail line s rs) (left_trail line a t (is_some (option_map (λ m. m.when) m)) beside shape s) line pc pc1 to b b1 slots rows s (SubsGive b1 (subs_of b rs)) (selections [] s rs)
       (λ ds. one_step line s (elemental [] s t >>= (λ r. assign_elemental (shape ds) chosen a ds r s))) (omega arith) le holds
       (subscripts-come table row_count moves code line n s rows s.printed holds.arrays rs pc b slots oks (has-front code pc c1 (c2 ++ last) has) holds.scalars le
       (omega (arith, few, holds.size)))
       (λ slots1 ds e1 same1 gives1 holds1.
-      subst (Goes table row_count moves code n many copy leave again (left_trail line a t (is_some (option_map (λ m. m.1) m)) shape s ds) to b1 slots1 (stands table row_count moves code pc1 slots1 rows s.printed))
+      subst (Goes table row_count moves code n many copy leave again (left_trail line a t (is_some (option_map (λ m. m.when) m)) beside shape s ds) to b1 slots1 (stands table row_count moves code pc1 slots1 rows s.printed))
       (sym (ends-bind line s (elemental [] s t) (λ r. assign_elemental (shape ds) chosen a ds r s)))
-      (goes-value table row_count moves code n many copy leave again (elemental_trail line s t) (λ r. after_value (space_size (shape ds) (ds ∷ sections r)) (λ k. reached line s (SectionAssigned (is_some (option_map (λ m. m.1) m)) (shape ds) a ds r))) line pc1 pc2 to b1 b2 slots1 rows s (FormGives n b2 (form_of b1 t)) (elemental [] s t)
+      (goes-value table row_count moves code n many copy leave again (elemental_trail line s t) (λ r. after_value (space_size (shape ds) (ds ∷ sections r)) (λ k. reached line s (SectionAssigned (is_some (option_map (λ m. m.when) m)) beside (shape ds) a ds r))) line pc1 pc2 to b1 b2 slots1 rows s (FormGives n b2 (form_of b1 t)) (elemental [] s t)
       (λ r. one_step line s (assign_elemental (shape ds) chosen a ds r s)) (omega arith) (omega (arith, le)) holds1
       (parts-come table row_count moves code line n s rows s.printed holds1.arrays t pc1 b1 slots1 ok (has-front code pc1 c2 last h1) holds1.scalars (omega (arith, le))
       (omega (arith, few, holds1.size)))
       (λ slots2 r e2 same2 gives2 holds2.
       let left : selections_in slots2 (subs_of b rs) ≡ ds = gives1 slots2 same2 in
-      assigned-goes table row_count moves code n many copy leave again p la masks b2 pc2 (has-back code pc1 c2 last h1) slots2 rows s holds2 ds r (shape ds) chosen left
+      assigned-goes table row_count moves code n many copy leave again p la masks beside lies known b2 pc2 (has-back code pc1 c2 last h1) slots2 rows s holds2 ds r (shape ds) chosen left
       (gives2.0 slots2 (same-refl b2 slots2)) (over slots2 ds (same-on b b b1 slots slots1 slots2 (omega arith) (omega arith) same1 same2) left) gives2.1 (mask ds))))))
 
   -- an assignment without a mask
   pub section-goes : (line b pc a : ℕ) (rs : SectionSubscripts) (t : Term) (slots : List ℤ) (rows : Storage) (s : State) → a < n → AreScalarSubscripts n rs → IsArray n t
       → HasAt code pc (assignment_code line b a rs t None) → n ≤ b → b + (subscripts_slots rs + parts_slots t) ≤ many
-      → Holds table row_count moves code n many copy s slots rows → Goes table row_count moves code n many copy leave again (section_trail None line a rs t s) (pc + length (assignment_code line b a rs t None)) b slots
+      → Holds table row_count moves code n many copy s slots rows → Goes table row_count moves code n many copy leave again (section_trail None None line a rs t s) (pc + length (assignment_code line b a rs t None)) b slots
       (stands table row_count moves code pc slots rows s.printed) (one_step line s (assign_section a rs t s))
-  section-goes line b pc a rs t slots rows s la oks ok has le few holds = assignment-goes line b pc a rs t None slots rows s extents (λ u. true) (λ w e. cc) la oks ok has le few holds
+  section-goes line b pc a rs t slots rows s la oks ok has le few holds = assignment-goes line b pc a rs t None slots rows s extents (λ u. true) (λ w e. cc) None (refl, tt) tt la oks ok has le few holds
       (λ later ds same e. ap extents e) (λ ds u values lt. refl)

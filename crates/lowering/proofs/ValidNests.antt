@@ -1,7 +1,8 @@
 -- The code of a nest that keeps its form is one that nodes can run, and it names what there is.
-use Rattle.std.proofs.Common.{◌≡◌, ℕ, zero, suc, ◌+◌, ◌*◌, ◌<◌, ◌≤◌, nat_eq, List, [], ◌∷◌, ◌++◌, length, length-append, map, Bool, true, false, true≢false, if◌then◌else◌, Option, Some, None, refl, sym, ap, ◌∙◌, subst, arith}
+use Rattle.std.proofs.Common.{◌≡◌, ℕ, zero, suc, ◌+◌, ◌*◌, ◌<◌, ◌≤◌, nat_eq, List, [], ◌∷◌, ◌++◌, length, length-append, map, Bool, true, false, true≢false, if◌then◌else◌, Option, Some, None, option_map, refl, sym, ap, ◌∙◌, subst, arith}
 use Rattle.std.proofs.lemmas.List.{length-map, length-reverse}
 use Rattle.std.specs.List.{AllByRecursion}
+use Rattle.std.specs.Option.{option_or}
 use Rattle.hpf_base.specs.declared.limits.TheConstants.{MAX_RANK}
 use Rattle.name_table.specs.declared.limits.TheConstants.{MAX_INDICES}
 use Rattle.op_tables.specs.declared.join.Join.{Join}
@@ -12,7 +13,7 @@ use Rattle.array_meaning.specs.Touches.{assigned_in}
 use Rattle.node_code.specs.Forms.{Sub, SubAlong}
 use Rattle.code_meaning.specs.Parallel.{shape_of}
 use Rattle.node_code.specs.Instructions.{Instruction}
-use Rattle.code_meaning.specs.ValidCode.{CodeTable, IsCopy, IsFlat, AreFlats, IsSub, IsSection, IsSpace, IsNestForm, AreNestForms, IsValid}
+use Rattle.code_meaning.specs.ValidCode.{CodeTable, IsAnchor, IsAnchorSub, IsCopy, IsFlat, AreFlats, IsSub, IsSection, IsSpace, IsNestForm, AreNestForms, IsValid}
 use Rattle.nest_syntax.specs.NestKinds.{Kind, Shared, New, Assigned, Reduced, has_copies, kind_of}
 use Rattle.nest_items.proofs.NameKinds.{copies_of_kind}
 use Rattle.nest_items.specs.Settled.{without}
@@ -22,12 +23,13 @@ use Rattle.nest_items.specs.BlockForms.{HasForm}
 use Rattle.program_code.specs.NestInstructions as forms
 use Rattle.program_code.specs.NestInstructions.{count_nest, slots_of_nest, nest_instructions}
 use Rattle.nest_syntax.specs.NestTerms.{indexed, all_indexed, scalar_or_index}
+use Rattle.statement_trail.specs.Anchors.{AnchorText, AtTerm, element_anchor, block_anchor, statement_anchor, arms_anchor}
 use Rattle.statement_trail.specs.NestParts.{index_in, each_once, of_these, among_from, scalars_in}
 use Rattle.program_code.specs.Places.{marks_by, final_by, finals_from, marks_from, place_by}
-use Rattle.program_code.specs.NestCode.{PlainBody, PlainArms, plain, plain_in, plain_arms, plain_else, bounds_in, kinds_in, scalars, conditions, nest_rows, stored, place_in, finals, copied_in, axis_in, text_in, test_in, along, bounds_code, trips_code, indices_code, nest_slots, inner_bounds, nest_code}
-use Rattle.lowered_nests.proofs.CodedBody.{no-division}
+use Rattle.program_code.specs.NestCode.{PlainBody, PlainArms, plain, plain_in, plain_arms, plain_else, bounds_in, kinds_in, scalars, conditions, nest_rows, stored, place_in, finals, copied_in, axis_in, text_in, test_in, along, bounds_code, trips_code, indices_code, nest_slots, inner_bounds, nest_beside, nest_code}
+use Rattle.lowered_expressions.proofs.Anchors.{linear-safe}
 use Rattle.lowered_nests.proofs.Listed.{in-some, in-none, not-in, among-is, is-among, not-read}
-use Rattle.program_code.specs.ExpressionCode.{index_flat, index_flats, index_subs, index_form, index_forms}
+use Rattle.program_code.specs.ExpressionCode.{index_flat, index_flats, index_subs, index_form, index_forms, anchor_sub_code, anchor_code}
 use Rattle.lowered_expressions.specs.WellFormed.{IsScalar, AreScalar, IsWellFormed, IsWellFormedBlock, AreWellFormedArms}
 use Rattle.lowering.specs.Ranks.{AreFewDims, IsRanked, AreRanked, KeepsRanks, ArmsKeepRanks, BlockKeepsRanks}
 use Rattle.lowering.proofs.NestValidity.{both, IsOfNests, IsFinalFrom, each-statement, IsMarkRow, AreGoodBounds, IsGoodFinal, AreGood, ArmsAreGood, value-good, statements-good}
@@ -99,6 +101,10 @@ indexed-length : (f : ℕ → Option ℕ) (ts : Terms) → length (index_subs (a
 indexed-length f NoTerm = refl
 indexed-length f (More t ts) = ap suc (indexed-length f ts)
 
+listed-length : (f : ℕ → Option ℕ) (ts : Terms) → length (list_of (all_indexed f ts)) ≡ length (list_of ts)
+listed-length f NoTerm = refl
+listed-length f (More t ts) = ap suc (listed-length f ts)
+
 module _ (table : CodeTable) (n : ℕ) (declared : length table.shapes ≡ n) (few : AreFewDims table.shapes) (roomy : n ≤ table.slots) where
   -- a bound of a loop
   mutual
@@ -108,7 +114,7 @@ module _ (table : CodeTable) (n : ℕ) (declared : length table.shapes ≡ n) (f
     exact-good (Index k) exact ok = absurd exact
     exact-good (Element a ts) exact ok = absurd exact
     exact-good (Section a subs) exact ok = absurd exact
-    exact-good (Apply o ts) exact ok = (no-division o exact.0, all-exact-good ts exact.1 ok)
+    exact-good (Apply o ts) exact ok = (linear-safe o exact.0, all-exact-good ts exact.1 ok)
     exact-good (Reduce o t) exact ok = absurd exact
 
     all-exact-good : (ts : Terms) → AreExact ts → AreScalar n ts → AreFlats table 0 (index_flats ts)
@@ -132,7 +138,7 @@ module _ (table : CodeTable) (n : ℕ) (declared : length table.shapes ≡ n) (f
       subscript-good (Index k) exact same ok = absurd exact
       subscript-good (Element a ts) exact same ok = absurd exact
       subscript-good (Section a subs) exact same ok = absurd exact
-      subscript-good (Apply o ts) exact same ok = (no-division o exact.0, all-subscript-flats ts exact.1 same ok)
+      subscript-good (Apply o ts) exact same ok = (linear-safe o exact.0, all-subscript-flats ts exact.1 same ok)
       subscript-good (Reduce o t) exact same ok = absurd exact
 
       all-subscript-flats : (ts : Terms) → AreExact ts → AreFixedTerms kinds free ts → AreScalar n ts → AreFlats table axes (index_flats (all_indexed f ts))
@@ -149,6 +155,20 @@ module _ (table : CodeTable) (n : ℕ) (declared : length table.shapes ≡ n) (f
         let most : length (shape_of table.shapes a) ≤ MAX_RANK = few a in
         let long = indexed-length f ts in
         ((omega (arith, below, declared), long ∙ rank, omega (arith, long, rank, most)), subscripts-good ts exact same ok)
+
+    -- an element beside which copies lie
+    listed-good : (ts : Terms) → AreExact ts → AreFixedTerms kinds free ts → AreScalar n ts
+        → AllByRecursion (IsAnchorSub table axes) (map anchor_sub_code (map AtTerm (list_of (all_indexed f ts))))
+    listed-good NoTerm exact same ok = tt
+    listed-good (More t ts) exact same ok = (subscript-good t exact.0 same.0 ok.0, listed-good ts exact.1 same.1 ok.1)
+
+    anchor-good : (a : ℕ) (ts : Terms) → AreExact ts → AreFixedTerms kinds free ts → a < n → AreScalar n ts → length (list_of ts) ≡ length (shape_of table.shapes a)
+        → IsAnchor table axes (Some (anchor_code (element_anchor a (all_indexed f ts))))
+    anchor-good a ts exact same below ok rank =
+        let most : length (shape_of table.shapes a) ≤ MAX_RANK = few a in
+        let long : length (map anchor_sub_code (map AtTerm (list_of (all_indexed f ts)))) ≡ length (list_of ts) =
+        length-map (map AtTerm (list_of (all_indexed f ts))) anchor_sub_code ∙ length-map (list_of (all_indexed f ts)) AtTerm ∙ listed-length f ts in
+        ((omega (arith, below, declared), long ∙ rank, omega (arith, long, rank, most)), listed-good ts exact same ok)
 
     mutual
       form-good : (own : Option ℕ) (t : Term) → IsPlain t → Stands kinds free own t → IsScalar n t → IsRanked table.shapes 0 t → IsNestForm table axes values (index_form (indexed f t))
@@ -326,6 +346,41 @@ module _ (table : CodeTable) (n : ℕ) (declared : length table.shapes ≡ n) (f
           arms-good free arms other keeps.2 text.2 ok.2 ranked.2 h,
         )
 
+      -- ---- what the copies lie beside
+
+      abbrev place : ℕ → Option ℕ
+      place = index_in (nest_indices nest) 0
+
+      abbrev IsBesideGood : Option AnchorText → Type 0
+      IsBesideGood a = IsAnchor table (length over) (option_map anchor_code a)
+
+      either-beside : (a b : Option AnchorText) → IsBesideGood a → IsBesideGood b → IsBesideGood (option_or a b)
+      either-beside None b h g = g
+      either-beside (Some a) b h g = h
+
+      place-below : (k j : ℕ) → place k ≡ Some j → j < length over
+      place-below k j e = let lt = index-below (nest_indices nest) 0 k j e in let m = indices-many in omega (arith, lt, m)
+
+      mutual
+        block-beside : (free : ℕ → Bool) (b : Block) → BlockKeeps kinds free b → TextsKeep all b → IsWellFormedBlock n b → BlockKeepsRanks table.shapes b → IsBesideGood (block_anchor place b)
+        block-beside free Done keeps texts ok ranked = tt
+        block-beside free (Then l st rest) keeps texts ok ranked =
+            either-beside (statement_anchor place st) (block_anchor place rest) (statement-beside free st keeps.0 texts.0 ok.0 ranked.0) (block-beside free rest keeps.1 texts.1 ok.1 ranked.1)
+
+        statement-beside : (free : ℕ → Bool) (st : Statement) → StatementKeeps kinds free st → TextKeeps all st → IsWellFormed n st → KeepsRanks table.shapes st
+            → IsBesideGood (statement_anchor place st)
+        statement-beside free (AssignElement a ts t) keeps text ok ranked =
+            anchor-good kinds free place (length over) (length over) place-below (λ k j none e. place-below k j e) a ts text.0 keeps.1 ok.0 ok.1 ranked.0.0
+        statement-beside free (If arms other) keeps text ok ranked =
+            either-beside (arms_anchor place arms) (block_anchor place other) (arms-beside free arms keeps.0 text.0 ok.0 ranked.0) (block-beside free other keeps.1 text.1 ok.1 ranked.1)
+        statement-beside free st keeps text ok ranked = tt
+
+        arms-beside : (free : ℕ → Bool) (arms : Arms) → ArmsKeep kinds free arms → ArmsTextsKeep all arms → AreWellFormedArms n arms → ArmsKeepRanks table.shapes arms
+            → IsBesideGood (arms_anchor place arms)
+        arms-beside free NoArm keeps text ok ranked = tt
+        arms-beside free (Arm l t b arms) keeps text ok ranked =
+            either-beside (block_anchor place b) (arms_anchor place arms) (block-beside free b keeps.1 text.1 ok.1 ranked.1) (arms-beside free arms keeps.2 text.2 ok.2 ranked.2)
+
     -- ---- the whole
 
     final-good : (kind : Kind) (j k : ℕ) → j < length ks → k < n → IsGoodFinal table line over space (final_by n ks conds kind j k)
@@ -378,13 +433,13 @@ module _ (table : CodeTable) (n : ℕ) (declared : length table.shapes ≡ n) (f
     indices-of (l ∷ ls) h = (h.0.index, indices-of ls h.1)
 
     code-good : (pc : ℕ) (loop : Loop) (inner : List Loop) → nest.loops ≡ loop ∷ inner → loop.index < n → AllByRecursion IsBoundLoop inner → Good (plain body)
-        → pc + length (nest_code n line nest body v pc) < table.places → AllByRecursion (IsValid table) (nest_code n line nest body v pc)
-    code-good pc loop inner is lt bound good within =
+        → IsAnchor table (length over) (nest_beside nest body) → pc + length (nest_code n line nest body v pc) < table.places → AllByRecursion (IsValid table) (nest_code n line nest body v pc)
+    code-good pc loop inner is lt bound good anchored within =
         both (IsValid table) bounds (trips ++ (statements ++ indices)) inner-valid
         (both (IsValid table) trips (statements ++ indices) (trips-valid v after nest.loops (omega (arith, slots)) (omega (arith, ends)))
         (both (IsValid table) statements indices
         (statements-good table line over space (text_in n nest body) (test_in n nest body) (stored n nest body) conds
-        (λ k less. row-is (length ks + k) (stored n nest body + k) (omega arith) (omega (arith, less))) (finals n nest body) (plain body) (v + 4 * length nest.loops) from
+        (λ k less. row-is (length ks + k) (stored n nest body + k) (omega arith) (omega (arith, less))) (nest_beside nest body) anchored (finals n nest body) (plain body) (v + 4 * length nest.loops) from
         (finals-good 0 ks (omega arith) (all-among (assigned_in body) 0 n n (omega arith))) good (omega arith) (omega (arith, slots)) (omega (arith, ends)))
         (indices-valid v (after + 3 * length nest.loops) nest.loops (omega (arith, slots)) (omega (arith, ends))
         (subst (AllByRecursion (λ (l : Loop). l.index < n)) (sym is) (lt, indices-of inner bound)))))
@@ -396,7 +451,7 @@ module _ (table : CodeTable) (n : ℕ) (declared : length table.shapes ≡ n) (f
         from = pc + length bounds + length nest.loops
 
         statements : List Instruction
-        statements = nest_instructions line over (text_in n nest body) (test_in n nest body) (stored n nest body) (finals n nest body) (plain body) (v + 4 * length nest.loops) from
+        statements = nest_instructions line over (nest_beside nest body) (text_in n nest body) (test_in n nest body) (stored n nest body) (finals n nest body) (plain body) (v + 4 * length nest.loops) from
 
         after : ℕ
         after = from + length statements
@@ -455,7 +510,8 @@ module _ (table : CodeTable) (n : ℕ) (declared : length table.shapes ≡ n) (f
       let its = inside nest body kinds form.all (without form.all loop.index) form.form.inner block form.form.tight ok ranked in
       code-good nest body form.operators room line v slots form.few pc loop form.form.inner form.form.loops lt
       (bound nest body form.operators room line v slots form.few form.form.inner its.loops)
-      (block-good nest body form.operators room line v slots form.few form.all its.free body its.keeps form.texts its.named its.ranked) within
+      (block-good nest body form.operators room line v slots form.few form.all its.free body its.keeps form.texts its.named its.ranked)
+      (block-beside nest body form.operators room line v slots form.few form.all its.free body its.keeps form.texts its.named its.ranked) within
     where
       bound : (nest : Nest) (body : Block) (operators : ℕ → Join) (room : nest_rows n nest body ≤ table.copies) (line v : ℕ) (slots : v + nest_slots nest body ≤ table.slots)
           (loops : length nest.loops ≤ MAX_INDICES) (ls : List Loop)
@@ -499,7 +555,7 @@ module _ (P : Instruction → Type 0) (line n : ℕ) (each : IsOfNests P line n)
   each-of-nest v pc =
       let bounds = inner_bounds line v nest.loops in
       let from : ℕ = pc + length bounds + length nest.loops in
-      let statements = nest_instructions line (along v nest.loops) (text_in n nest body) (test_in n nest body) (stored n nest body) (finals n nest body) (plain body)
+      let statements = nest_instructions line (along v nest.loops) (nest_beside nest body) (text_in n nest body) (test_in n nest body) (stored n nest body) (finals n nest body) (plain body)
       (v + 4 * length nest.loops) from in
       let after : ℕ = from + length statements in
       let trips = trips_code line v after nest.loops in
@@ -507,6 +563,6 @@ module _ (P : Instruction → Type 0) (line n : ℕ) (each : IsOfNests P line n)
       both P bounds (trips ++ (statements ++ indices)) (each-inner v nest.loops)
       (both P trips (statements ++ indices) (each-trips v after nest.loops)
       (both P statements indices
-      (each-statement P line n each (along v nest.loops) (text_in n nest body) (test_in n nest body) (stored n nest body) (omega arith) (finals n nest body)
+      (each-statement P line n each (along v nest.loops) (nest_beside nest body) (text_in n nest body) (test_in n nest body) (stored n nest body) (omega arith) (finals n nest body)
       (finals-from (kinds_in n nest body) 0 (scalars n nest body)) (plain body) (v + 4 * length nest.loops) from)
       (each-index v (after + 3 * length nest.loops) nest.loops)))

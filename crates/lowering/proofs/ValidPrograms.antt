@@ -1,9 +1,10 @@
 -- The code of programs that keep the ranks of their arrays is valid.
-use Rattle.std.proofs.Common.{◌≡◌, ℕ, zero, suc, ◌+◌, ◌<◌, ◌≤◌, List, [], ◌∷◌, ◌++◌, length, length-append, map, max, Bool, true, false, Option, Some, None, refl, sym, ap, subst, ◌∙◌, arith}
+use Rattle.std.proofs.Common.{◌≡◌, ℕ, zero, suc, ◌+◌, ◌<◌, ◌≤◌, List, [], ◌∷◌, ◌++◌, length, length-append, map, max, Bool, true, false, Option, Some, None, if◌then◌else◌, refl, sym, ap, subst, ◌∙◌, arith}
 use Rattle.std.specs.Bool.{⊤}
 use Rattle.std.specs.Prelude.{option_map, pos, slice_get}
 use Rattle.std.specs.List.{AllByRecursion}
 use Rattle.std.specs.Option.{option_or}
+use Rattle.std.proofs.lemmas.List.{length-map}
 use Rattle.hpf_base.specs.declared.limits.TheConstants.{MAX_RANK}
 use Rattle.name_table.specs.declared.limits.TheConstants.{MAX_INDICES}
 use Rattle.op_tables.specs.declared.op.Op.{Op}
@@ -12,16 +13,20 @@ use Rattle.op_tables.specs.Operators.{can_divide}
 use Rattle.array_meaning.specs.Terms.{Term, Number, Scalar, Index, Element, Section, Apply, Reduce, Terms, NoTerm, More, list_of, SectionSubscripts, NoSubscript, Subscript, Triplet, Control}
 use Rattle.array_meaning.specs.Statements as statements
 use Rattle.array_meaning.specs.Statements.{Loop, Mark, Unmarked, Outermost, Item, Text, Value, Elements, SectionAssignment, ElementAssignment, Block, Done, Then, Statement, AssignScalar, AssignElement, AssignSection, If, Do, Where, Forall, Stop, Exit, Cycle, Continue, Redistribute, Arms, NoArm, Arm}
+use Rattle.statement_trail.specs.Anchors.{AtTerm, are_all_foreknown, section_terms, where_anchor}
 use Rattle.array_meaning.specs.Forall.{subscripts_in, subscripts_in_all, mask_subscripts, body_subscripts}
 use Rattle.node_code.specs.Flat.{Flat, Int, Slot, Axis, Read, Operated, Flats, NoFlat, AndFlat}
+use Rattle.node_code.specs.Anchors.{FlatAnchor}
 use Rattle.node_code.specs.Forms.{Sub, ArrayForm, FlatForm, SectionForm, OperationForm, Forms, NoForm, AndForm}
 use Rattle.node_code.specs.Parallel.{When, Evaluation}
 use Rattle.code_meaning.specs.Parallel.{shape_of}
 use Rattle.node_code.specs.Instructions.{NewMapping, Instruction, Jump, JumpIfZero, Halt, MakeCopy, Remap, Set, Trips}
-use Rattle.code_meaning.specs.ValidCode.{CodeTable, flat_count, IsCopy, IsFlat, AreFlats, IsValue, IsReference, IsElement, IsSub, IsSection, IsSpace, IsForm, AreForms, IsMask, IsAssignment, IsEvaluation, IsItem, IsValid, IsValidNodeCode, is_closed}
-use Rattle.program_code.specs.ExpressionCode.{one_if, slots_of, all_slots_of, parts_slots, all_parts_slots, subscripts_slots, control_slots, operated_flat, flat_of, flats_of, subs_of, form_of, forms_of, set_if, three_code, first_subs, first_subs_of, or_no_sub, own_evaluation, reduce_code, code_of, codes_of, subscripts_code, parts_code, all_parts_code, control_code, index_flat, index_flats, index_subs, index_form, index_forms}
-use Rattle.program_code.specs.StatementCode.{entry_code, item_slots, items_slots, item_code, items_code, print_item, print_items, loop_code, arm_code, assignment, assignment_code, masked_slots, masked_code, where_true, where_code, triplets, one_to_one_code, forall_mask_code, forall_assignments_code, forall_code, statement_slots, arms_slots, block_slots, block_copies, statement_code, arms_code, block_code, program_code, statement_copies, arms_copies}
+use Rattle.code_meaning.specs.ValidCode.{CodeTable, flat_count, IsCopy, IsFlat, AreFlats, IsValue, IsReference, IsElement, IsSub, IsSection, IsSpace, IsForm, AreForms, IsMask, IsAnchorSub, IsAnchor, IsAssignment, IsEvaluation, IsItem, IsValid, IsValidNodeCode, is_closed}
+use Rattle.program_code.specs.ExpressionCode.{one_if, slots_of, all_slots_of, parts_slots, all_parts_slots, subscripts_slots, control_slots, operated_flat, flat_of, flats_of, subs_of, form_of, forms_of, set_if, three_code, first_subs, first_subs_of, or_no_sub, copied_evaluation, own_evaluation, reduce_code, code_of, codes_of, subscripts_code, parts_code, all_parts_code, control_code, index_flat, index_flats, index_subs, index_form, index_forms, anchor_sub_code, anchor_code}
+use Rattle.program_code.specs.StatementCode.{Masking, entry_code, item_slots, items_slots, item_code, items_code, print_item, print_items, loop_code, arm_code, assignment, assignment_code, masked_slots, masked_code, where_true, where_beside, where_code, triplets, one_to_one_code, forall_beside, forall_mask_code, forall_assignments_code, forall_code, statement_slots, arms_slots, block_slots, block_copies, statement_code, arms_code, block_code, program_code, statement_copies, arms_copies}
 use Rattle.lowered_expressions.specs.WellFormed.{IsScalar, AreScalar, AreScalarSubscripts, IsArray, AreArrays, IsControl, AreControls, AreMasked, IsSubscript, AreSubscripts, IsIndexed, AreIndexed, IsIndexedMask, AreIndexedAssignments, AreItems, IsWellFormed, AreWellFormedArms, IsWellFormedBlock}
+use Rattle.lowered_expressions.specs.Anchors.{IsAnchorTerm, IsAnchorText}
+use Rattle.lowered_expressions.proofs.Anchors.{where-anchored, masked-append}
 use Rattle.program_code.specs.NestCode.{nest_slots, nest_code}
 use Rattle.nest_items.specs.BlockForms.{BlockHasForms, HasForms, ArmsHaveForms}
 use Rattle.lowering.proofs.NestNames.{formed_nest}
@@ -53,6 +58,11 @@ triplets_counted (c ∷ cs) = let more = triplets_counted cs in omega (arith, mo
 index_counted : (ts : Terms) → length (index_subs ts) ≡ length (list_of ts)
 index_counted NoTerm = refl
 index_counted (More t ts) = ap suc (index_counted ts)
+
+terms_counted : (subs : SectionSubscripts) → length (section_terms subs) ≡ subscript_count subs
+terms_counted NoSubscript = refl
+terms_counted (Subscript t subs) = let more = terms_counted subs in omega (arith, more)
+terms_counted (Triplet first last step subs) = let more = terms_counted subs in omega (arith, more)
 
 -- `n` names are declared, and no array has more than 7 dimensions
 module _ (table : CodeTable) (n : ℕ) (declared : length table.shapes ≡ n) (few : AreFewDims table.shapes) (roomy : n ≤ table.slots) where
@@ -162,7 +172,7 @@ module _ (table : CodeTable) (n : ℕ) (declared : length table.shapes ≡ n) (f
   own-space (Some subs) ok = ok
 
   own-good : (line : ℕ) (f : ArrayForm) → IsForm table 0 f → IsEvaluation table 0 (own_evaluation line f)
-  own-good line f ok = (ok, own-space (first_subs f) (first-space f ok))
+  own-good line f ok = (ok, own-space (first_subs f) (first-space f ok), tt)
 
   -- ---- the code of expressions
 
@@ -281,16 +291,16 @@ module _ (table : CodeTable) (n : ℕ) (declared : length table.shapes ≡ n) (f
       let more : b + (item_slots i + items_slots is) ≤ table.slots = le in
       (printed-good b i is ok ranked.0 (omega (arith, more)), all-printed (b + item_slots i) is ok.1 ranked.1 (omega (arith, more)))
 
-  abbrev IsMaskSpace : Option (List Sub × When) → Type 0
+  abbrev IsMaskSpace : Option Masking → Type 0
   IsMaskSpace None = ⊤
-  IsMaskSpace (Some m) = IsSpace table m.0 × IsCopy table m.1.copy
+  IsMaskSpace (Some m) = IsSpace table m.over × IsCopy table m.when.copy × IsAnchor table (length m.over) m.beside
 
-  is-assignment : (line b a : ℕ) (subs : SectionSubscripts) (t : Term) (mask : Option (List Sub × When)) → IsMaskSpace mask → IsSection table 0 a (subs_of b subs) →
+  is-assignment : (line b a : ℕ) (subs : SectionSubscripts) (t : Term) (mask : Option Masking) → IsMaskSpace mask → IsSection table 0 a (subs_of b subs) →
       IsForm table 0 (form_of (b + subscripts_slots subs) t) → IsAssignment table 0 (assignment line b a subs t mask)
-  is-assignment line b a subs t None masked left right = (left, right, (left.0.2, left.1), tt)
-  is-assignment line b a subs t (Some m) masked left right = (left, right, masked.0, masked.1)
+  is-assignment line b a subs t None masked left right = (left, right, (left.0.2, left.1), tt, tt)
+  is-assignment line b a subs t (Some m) masked left right = (left, right, masked.0, masked.1, masked.2)
 
-  assignment-good : (line b a : ℕ) (subs : SectionSubscripts) (t : Term) (mask : Option (List Sub × When)) → IsMaskSpace mask → a < n → AreScalarSubscripts n subs →
+  assignment-good : (line b a : ℕ) (subs : SectionSubscripts) (t : Term) (mask : Option Masking) → IsMaskSpace mask → a < n → AreScalarSubscripts n subs →
       IsArray n t → IsRanked table.shapes 0 (Section a subs) → IsRanked table.shapes 0 t → b + (subscripts_slots subs + parts_slots t) ≤ table.slots →
       AllValid (assignment_code line b a subs t mask)
   assignment-good line b a subs t mask masked below ok ok1 ranked ranked1 le =
@@ -299,7 +309,7 @@ module _ (table : CodeTable) (n : ℕ) (declared : length table.shapes ≡ n) (f
       join (subscripts_code line b subs) _ (subscripts-good line b subs ok ranked.1 (omega (arith, le)))
       (join (parts_code line (b + subscripts_slots subs) t) _ (parts-good line (b + subscripts_slots subs) t ok1 ranked1 (omega (arith, le))) (own, (own, (tt, tt))))
 
-  masked-good : (b : ℕ) (m : List Sub × When) (xs : List SectionAssignment) → IsMaskSpace (Some m) → AreMasked n xs → AllByRecursion (IsRankedMasked table.shapes) xs →
+  masked-good : (b : ℕ) (m : Masking) (xs : List SectionAssignment) → IsMaskSpace (Some m) → AreMasked n xs → AllByRecursion (IsRankedMasked table.shapes) xs →
       b + masked_slots xs ≤ table.slots → AllValid (masked_code b m xs)
   masked-good b m [] masked ok ranked le = tt
   masked-good b m (x ∷ xs) masked ok ranked le =
@@ -328,6 +338,19 @@ module _ (table : CodeTable) (n : ℕ) (declared : length table.shapes ≡ n) (f
     index-subs-good : (ts : Terms) → AreSubscripts n ts → AreRanked table.shapes axes ts → AllByRecursion (IsSub table axes) (index_subs ts)
     index-subs-good NoTerm ok ranked = tt
     index-subs-good (More t ts) ok ranked = (index-flat-good t ok.0 ranked.0, index-subs-good ts ok.1 ranked.1)
+
+    -- an element beside which copies lie
+    anchored-good : (ts : Terms) → AreSubscripts n ts → AreRanked table.shapes axes ts → AllByRecursion (IsAnchorSub table axes) (map anchor_sub_code (map AtTerm (list_of ts)))
+    anchored-good NoTerm ok ranked = tt
+    anchored-good (More t ts) ok ranked = (index-flat-good t ok.0 ranked.0, anchored-good ts ok.1 ranked.1)
+
+    forall-beside-good : (xs : List ElementAssignment) → AreIndexedAssignments n xs → AllByRecursion (IsRankedIndexed table.shapes axes) xs → IsAnchor table axes (forall_beside xs)
+    forall-beside-good [] ok ranked = tt
+    forall-beside-good (x ∷ xs) ok ranked = (
+      reference x.array (length (map anchor_sub_code (map AtTerm (list_of x.subscripts)))) ok.0
+          (length-map (map AtTerm (list_of x.subscripts)) anchor_sub_code ∙ length-map (list_of x.subscripts) AtTerm ∙ ranked.0.0.0),
+      anchored-good x.subscripts ok.1 ranked.0.0.1,
+    )
 
     listed-good : (ts : Terms) → AreSubscripts n ts → AreRanked table.shapes axes ts → AllByRecursion (IsFlat table axes) (map index_flat (list_of ts))
     listed-good NoTerm ok ranked = tt
@@ -378,18 +401,58 @@ module _ (table : CodeTable) (n : ℕ) (declared : length table.shapes ≡ n) (f
         (both_mapped (IsFlat table axes) index_flat (list_of x.subscripts) (subscripts_in x.right) (listed-good x.subscripts ok.1 ranked.0.0.1) (inside-good x.right ok.2 ranked.0.1))
         (body-inside xs ok.3 ranked.1)
 
+  -- ---- what the copy of a WHERE's mask lies beside
+
+  -- without indices it is one over any space
+  mutual
+    flat-more : (axes : ℕ) (t : Term) → IsSubscript n t → IsRanked table.shapes 0 t → IsFlat table axes (index_flat t)
+    flat-more axes (Number v) ok ranked = tt
+    flat-more axes (Scalar k) ok ranked = scalar-slot k ok
+    flat-more axes (Index k) ok ranked = omega (arith, ranked)
+    flat-more axes (Element a ts) ok ranked = absurd ok
+    flat-more axes (Section a subs) ok ranked = absurd ok
+    flat-more axes (Apply o ts) ok ranked = (ok.0, flats-more axes ts ok.1 ranked)
+    flat-more axes (Reduce o t) ok ranked = absurd ok
+
+    flats-more : (axes : ℕ) (ts : Terms) → AreSubscripts n ts → AreRanked table.shapes 0 ts → AreFlats table axes (index_flats ts)
+    flats-more axes NoTerm ok ranked = tt
+    flats-more axes (More t ts) ok ranked = (flat-more axes t ok.0 ranked.0, flats-more axes ts ok.1 ranked.1)
+
+  section-terms-good : (axes : ℕ) (subs : SectionSubscripts) → AllByRecursion (IsAnchorTerm n) (section_terms subs) → AreRankedSubscripts table.shapes 0 subs
+      → AllByRecursion (IsAnchorSub table axes) (map anchor_sub_code (section_terms subs))
+  section-terms-good axes NoSubscript ok ranked = tt
+  section-terms-good axes (Subscript t subs) ok ranked = (flat-more axes t ok.0 ranked.0, section-terms-good axes subs ok.1 ranked.1)
+  section-terms-good axes (Triplet f l s subs) ok ranked =
+      ((flat-more 0 f ok.0.0 ranked.0.0, flat-more 0 s ok.0.1 ranked.0.2), section-terms-good axes subs ok.1 ranked.1)
+
+  section-beside-good : (axes a : ℕ) (subs : SectionSubscripts) (t : Bool) → subscript_count subs ≡ Rank a → AreRankedSubscripts table.shapes 0 subs
+      → IsAnchorText n (if t then Some (record { array = a; subscripts = section_terms subs }) else None)
+      → IsAnchor table axes (option_map anchor_code (if t then Some (record { array = a; subscripts = section_terms subs }) else None))
+  section-beside-good axes a subs false rank ranked ok = tt
+  section-beside-good axes a subs true rank ranked ok = (
+    reference a (length (map anchor_sub_code (section_terms subs))) ok.0 (length-map (section_terms subs) anchor_sub_code ∙ terms_counted subs ∙ rank),
+    section-terms-good axes subs ok.1 ranked,
+  )
+
+  where-beside-good : (axes : ℕ) (xs : List SectionAssignment) → IsAnchorText n (where_anchor xs) → AllByRecursion (IsRankedMasked table.shapes) xs → IsAnchor table axes (where_beside xs)
+  where-beside-good axes [] ok ranked = tt
+  where-beside-good axes (x ∷ xs) ok ranked = section-beside-good axes x.array x.subscripts (are_all_foreknown x.subscripts) ranked.0.0.0 ranked.0.0.1 ok
+
+  -- ---- assignments of a FORALL
+
   one-to-one-good : (over : List Sub) (xs : List ElementAssignment) → IsSpace table over → AreIndexedAssignments n xs →
       AllByRecursion (IsRankedIndexed table.shapes (length over)) xs → AllValid (one_to_one_code over xs)
   one-to-one-good over [] space ok ranked = tt
   one-to-one-good over (x ∷ xs) space ok ranked =
       ((space, listed-good (length over) x.subscripts ok.1 ranked.0.0.1), one-to-one-good over xs space ok.3 ranked.1)
 
-  forall-assignments-good : (over : List Sub) (mask : Option When) (xs : List ElementAssignment) → IsSpace table over → IsMask table mask → AreIndexedAssignments n xs →
-      AllByRecursion (IsRankedIndexed table.shapes (length over)) xs → AllValid (forall_assignments_code over mask xs)
-  forall-assignments-good over mask [] space masked ok ranked = tt
-  forall-assignments-good over mask (x ∷ xs) space masked ok ranked = (
-    (index-section-good (length over) x.array x.subscripts ok.0 ok.1 ranked.0.0, index-form-good (length over) x.right ok.2 ranked.0.1, space, masked),
-    (tt, forall-assignments-good over mask xs space masked ok.3 ranked.1),
+  forall-assignments-good : (over : List Sub) (mask : Option When) (beside : Option FlatAnchor) (xs : List ElementAssignment) → IsSpace table over → IsMask table mask →
+      IsAnchor table (length over) beside → AreIndexedAssignments n xs → AllByRecursion (IsRankedIndexed table.shapes (length over)) xs →
+      AllValid (forall_assignments_code over mask beside xs)
+  forall-assignments-good over mask beside [] space masked anchored ok ranked = tt
+  forall-assignments-good over mask beside (x ∷ xs) space masked anchored ok ranked = (
+    (index-section-good (length over) x.array x.subscripts ok.0 ok.1 ranked.0.0, index-form-good (length over) x.right ok.2 ranked.0.1, space, masked, anchored),
+    (tt, forall-assignments-good over mask beside xs space masked anchored ok.3 ranked.1),
   )
 
   -- ---- targets
@@ -442,12 +505,18 @@ module _ (table : CodeTable) (n : ℕ) (declared : length table.shapes ≡ n) (f
       KeepsRanks table.shapes (Where mask body others) → b + (parts_slots mask + max (masked_slots body) (masked_slots others)) ≤ table.slots →
       AllValid (where_code copy line b mask body others)
   where-good copy line b mask body others is-copy ok ranked le =
-      let p : Evaluation = own_evaluation line (form_of b mask) in
-      let own = own-good line (form_of b mask) (form-good 0 b mask ok.0 ranked.0 (omega (arith, le))) in
-      let copied : IsValid table (MakeCopy copy p) = (is-copy, (form-good (length p.over) b mask ok.0 ranked.0 (omega (arith, le)), own.1)) in
-      let inside = masked-good (b + parts_slots mask) (p.over, where_true copy true) body (own.1, is-copy) ok.1 ranked.1 (omega (arith, le)) in
-      let outside = masked-good (b + parts_slots mask) (p.over, where_true copy false) others (own.1, is-copy) ok.2 ranked.2 (omega (arith, le)) in
-      let rest = join (masked_code (b + parts_slots mask) (p.over, where_true copy true) body) _ inside outside in
+      let p : Evaluation = copied_evaluation line (form_of b mask) (where_beside (body ++ others)) in
+      let anchored : IsAnchor table (length p.over) p.beside =
+      where-beside-good (length p.over) (body ++ others) (where-anchored n (body ++ others) (masked-append n body others ok.1 ok.2))
+      (both (IsRankedMasked table.shapes) body others ranked.1 ranked.2) in
+      let form = form-good 0 b mask ok.0 ranked.0 (omega (arith, le)) in
+      let space : IsSpace table p.over = own-space (first_subs (form_of b mask)) (first-space (form_of b mask) form) in
+      let own : IsEvaluation table 0 p = (form, space, anchored) in
+      let copied : IsValid table (MakeCopy copy p) = (is-copy, (form-good (length p.over) b mask ok.0 ranked.0 (omega (arith, le)), space, anchored)) in
+      let masking : Bool → Masking = λ value. record { over = p.over; when = where_true copy value; beside = p.beside } in
+      let inside = masked-good (b + parts_slots mask) (masking true) body (space, is-copy, anchored) ok.1 ranked.1 (omega (arith, le)) in
+      let outside = masked-good (b + parts_slots mask) (masking false) others (space, is-copy, anchored) ok.2 ranked.2 (omega (arith, le)) in
+      let rest = join (masked_code (b + parts_slots mask) (masking true) body) _ inside outside in
       join (parts_code line b mask) _ (parts-good line b mask ok.0 ranked.0 (omega (arith, le))) (own, (copied, ((is-copy, own), (tt, rest))))
 
   header-scalar : (cs : List Control) → AreControls n cs → AreScalarSubscripts n (triplets cs)
@@ -458,11 +527,11 @@ module _ (table : CodeTable) (n : ℕ) (declared : length table.shapes ≡ n) (f
   header-ranked [] ranked = tt
   header-ranked (c ∷ cs) ranked = (ranked.0, header-ranked cs ranked.1)
 
-  mask-good : (copy line : ℕ) (over : List Sub) (mask : Option Term) → IsCopy table copy → IsSpace table over → IsIndexedMask n mask →
-      IsRankedMask table.shapes (length over) mask → AllValid (forall_mask_code copy line over mask)
-  mask-good copy line over None is-copy space ok ranked = tt
-  mask-good copy line over (Some t) is-copy space ok ranked =
-      let own = index-form-good (length over) t ok ranked in ((is-copy, (own, space)), ((is-copy, (own, space)), (tt, tt)))
+  mask-good : (copy line : ℕ) (over : List Sub) (beside : Option FlatAnchor) (mask : Option Term) → IsCopy table copy → IsSpace table over →
+      IsAnchor table (length over) beside → IsIndexedMask n mask → IsRankedMask table.shapes (length over) mask → AllValid (forall_mask_code copy line over beside mask)
+  mask-good copy line over beside None is-copy space anchored ok ranked = tt
+  mask-good copy line over beside (Some t) is-copy space anchored ok ranked =
+      let own = index-form-good (length over) t ok ranked in ((is-copy, (own, space, anchored)), ((is-copy, (own, space, anchored)), (tt, tt)))
 
   masked-by : (copy : ℕ) (mask : Option Term) → IsCopy table copy → IsMask table (option_map (λ t. where_true copy true) mask)
   masked-by copy None is-copy = tt
@@ -478,6 +547,7 @@ module _ (table : CodeTable) (n : ℕ) (declared : length table.shapes ≡ n) (f
       let space : IsSpace table over = (omega (arith, axes, most), subs-good 0 b (triplets cs) header le) in
       let by : IsRankedMask table.shapes (length over) mask = subst (λ k. IsRankedMask table.shapes k mask) (sym axes) ranked.2 in
       let all : AllByRecursion (IsRankedIndexed table.shapes (length over)) body = subst (λ k. AllByRecursion (IsRankedIndexed table.shapes k) body) (sym axes) ranked.3 in
+      let anchored : IsAnchor table (length over) (forall_beside body) = forall-beside-good (length over) body ok.2 all in
       join (subscripts_code line b (triplets cs)) _ (subscripts-good line b (triplets cs) header (header-ranked cs ranked.1) le) (
         (
           space,
@@ -485,8 +555,8 @@ module _ (table : CodeTable) (n : ℕ) (declared : length table.shapes ≡ n) (f
               (body-inside (length over) body ok.2 all),
         ),
         join (one_to_one_code over body) _ (one-to-one-good over body space ok.2 all)
-            (join (forall_mask_code copy line over mask) _ (mask-good copy line over mask is-copy space ok.1 by)
-            (forall-assignments-good over (option_map (λ t. where_true copy true) mask) body space (masked-by copy mask is-copy) ok.2 all)),
+            (join (forall_mask_code copy line over (forall_beside body) mask) _ (mask-good copy line over (forall_beside body) mask is-copy space anchored ok.1 by)
+            (forall-assignments-good over (option_map (λ t. where_true copy true) mask) (forall_beside body) body space (masked-by copy mask is-copy) anchored ok.2 all)),
       )
 
   module _ (copied : 1 ≤ table.copies) (moves : ℕ → List NewMapping) (moving : (line : ℕ) → IsValid table (Remap line (moves line))) where

@@ -16,10 +16,11 @@ use Rattle.machine_steps.specs.SameLayouts.{is_same_layout}
 use Rattle.machine_steps.specs.Machine.{instr_of}
 use Rattle.machine_steps.specs.Agrees.{IsValidInstr, IsValidCode}
 use Rattle.node_code.specs.Flat.{Flat}
+use Rattle.node_code.specs.Anchors.{FlatAnchor}
 use Rattle.node_code.specs.Forms.{Sub}
 use Rattle.node_code.specs.Parallel.{When}
 use Rattle.program_code.specs.ExpressionCode.{slots_of, parts_slots, subscripts_slots, control_slots, set_if, three_code, code_of, codes_of, subscripts_code, parts_code, all_parts_code, control_code}
-use Rattle.program_code.specs.StatementCode.{marked_code, entry_code, loop_code, item_slots, item_code, items_code, assignment_code, masked_code, triplets, one_to_one_code, forall_mask_code, forall_assignments_code, statement_code, arms_code, block_code, program_code}
+use Rattle.program_code.specs.StatementCode.{Masking, marked_code, entry_code, loop_code, item_slots, item_code, items_code, assignment_code, masked_code, triplets, one_to_one_code, forall_mask_code, forall_assignments_code, statement_code, arms_code, block_code, program_code}
 use Rattle.lowered_expressions.specs.WellFormed.{IsScalar, AreScalar, AreScalarSubscripts, IsArray, AreArrays, IsControl, AreControls, AreMasked, AreItems, IsWellFormed, AreWellFormedArms, IsWellFormedBlock}
 use Rattle.program_code.specs.NestCode.{nest_code}
 use Rattle.lowering.proofs.NestValidity.{IsOfNests}
@@ -95,12 +96,12 @@ module _ (count n : ℕ) (shapes : List Shape) (table : ArrayTable) (moves : ℕ
   items-valid line b [] ok = tt
   items-valid line b (i ∷ is) ok = both (item_code line b i) _ (item-valid line b i is ok) (items-valid line (b + item_slots i) is ok.1)
 
-  assignment-valid : (line b a : ℕ) (subs : SectionSubscripts) (t : Term) (mask : Option (List Sub × When)) → AreScalarSubscripts n subs → IsArray n t
+  assignment-valid : (line b a : ℕ) (subs : SectionSubscripts) (t : Term) (mask : Option Masking) → AreScalarSubscripts n subs → IsArray n t
       → AllValid (assignment_code line b a subs t mask)
   assignment-valid line b a subs t mask ok ok1 = both (subscripts_code line b subs) _ (subscripts-valid line b subs ok)
       (both (parts_code line (b + subscripts_slots subs) t) _ (parts-valid line (b + subscripts_slots subs) t ok1) (tt, (tt, (tt, tt))))
 
-  masked-valid : (b : ℕ) (m : List Sub × When) (xs : List SectionAssignment) → AreMasked n xs → AllValid (masked_code b m xs)
+  masked-valid : (b : ℕ) (m : Masking) (xs : List SectionAssignment) → AreMasked n xs → AllValid (masked_code b m xs)
   masked-valid b m [] ok = tt
   masked-valid b m (x ∷ xs) ok = both (assignment_code x.line b x.array x.subscripts x.right (Some m)) _
       (assignment-valid x.line b x.array x.subscripts x.right (Some m) ok.1 ok.2) (masked-valid b m xs ok.3)
@@ -114,13 +115,13 @@ module _ (count n : ℕ) (shapes : List Shape) (table : ArrayTable) (moves : ℕ
   one-to-one-valid over [] = tt
   one-to-one-valid over (x ∷ xs) = (tt, one-to-one-valid over xs)
 
-  forall-mask-valid : (line : ℕ) (over : List Sub) (mask : Option Term) → AllValid (forall_mask_code n line over mask)
-  forall-mask-valid line over None = tt
-  forall-mask-valid line over (Some t) = ((few, λ layouts declared owned slots. dealt layouts owned None _), (tt, (tt, tt)))
+  forall-mask-valid : (line : ℕ) (over : List Sub) (beside : Option FlatAnchor) (mask : Option Term) → AllValid (forall_mask_code n line over beside mask)
+  forall-mask-valid line over beside None = tt
+  forall-mask-valid line over beside (Some t) = ((few, λ layouts declared owned slots. dealt layouts owned _ _), (tt, (tt, tt)))
 
-  forall-assignments-valid : (over : List Sub) (mask : Option When) (xs : List ElementAssignment) → AllValid (forall_assignments_code over mask xs)
-  forall-assignments-valid over mask [] = tt
-  forall-assignments-valid over mask (x ∷ xs) = (tt, (tt, forall-assignments-valid over mask xs))
+  forall-assignments-valid : (over : List Sub) (mask : Option When) (beside : Option FlatAnchor) (xs : List ElementAssignment) → AllValid (forall_assignments_code over mask beside xs)
+  forall-assignments-valid over mask beside [] = tt
+  forall-assignments-valid over mask beside (x ∷ xs) = (tt, (tt, forall-assignments-valid over mask beside xs))
 
   entry-valid : (line : ℕ) (mark : Mark) (v : ℕ) → AllValid (entry_code line mark v)
   entry-valid line Unmarked v = tt
@@ -133,7 +134,7 @@ module _ (count n : ℕ) (shapes : List Shape) (table : ArrayTable) (moves : ℕ
     jump = λ target. tt;
     jump_if = λ target x. tt;
     par = λ p. tt;
-    makes = λ copy over start le. (omega (arith, few, le), λ layouts declared owned slots. dealt layouts owned None _);
+    makes = λ copy over start beside le. (omega (arith, few, le), λ layouts declared owned slots. dealt layouts owned _ _);
     verdict = tt;
     folds = λ copy j x. fold-is j;
     lasts = λ copy set x. same;
@@ -167,7 +168,7 @@ module _ (count n : ℕ) (shapes : List Shape) (table : ArrayTable) (moves : ℕ
         both (parts_code line b mask) _ (parts-valid line b mask ok.0) (
           tt,
           (
-            (few, λ layouts declared owned slots. dealt layouts owned None _),
+            (few, λ layouts declared owned slots. dealt layouts owned _ _),
             (tt, (tt, both (masked_code (b + parts_slots mask) _ body) _ (masked-valid (b + parts_slots mask) _ body ok.1) (masked-valid (b + parts_slots mask) _ others ok.2))),
           ),
         )
@@ -175,7 +176,7 @@ module _ (count n : ℕ) (shapes : List Shape) (table : ArrayTable) (moves : ℕ
         both (subscripts_code line b (triplets controls)) _ (header-valid line b controls ok.0) (
           tt,
           both (one_to_one_code _ body) _ (one-to-one-valid _ body)
-              (both (forall_mask_code n line _ mask) _ (forall-mask-valid line _ mask) (forall-assignments-valid _ _ body)),
+              (both (forall_mask_code n line _ _ mask) _ (forall-mask-valid line _ _ mask) (forall-assignments-valid _ _ _ body)),
         )
     statement-valid (statements.Print items) line b pc leave again ok = both (items_code line b items) _ (items-valid line b items ok) (tt, tt)
     statement-valid Stop line b pc leave again ok = (tt, tt)

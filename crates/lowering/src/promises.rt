@@ -35,8 +35,8 @@ pub fn programs_lowered()
 {}
 
 /// The machine passes, on its way to that end, the parts and the redistributions that the program reaches, in their order and no others: entry
-/// by entry the instruction is that part, with the scalars of that moment in its slots, and its constants and the slots that it names give
-/// what was evaluated once; or it gives the arrays the mappings of the REDISTRIBUTE's line.
+/// by entry the instruction is that part, with the scalars of that moment in its slots, its constants and the slots that it names give
+/// what was evaluated once, and its copies lie beside what the part says; or it gives the arrays the mappings of the REDISTRIBUTE's line.
 pub fn trails_lowered()
     ensures { (n room : ℕ) (table : ArrayTable) (moves : ℕ → List NewMapping) (body : Block) (s : State) (layouts : List Layout)
         → IsState n s → IsTable s table → block_copies n body ≤ room → length layouts ≡ n + room → IsWellFormedBlock n body → BlockHasForms body

@@ -1,11 +1,13 @@
 -- Of private clauses.
 -- No public clause cites this file. What is known before an instruction.
-use Rattle.std.specs.Prelude.{List, [], ◌∷◌, ◌++◌, length, map, take}
+use Rattle.std.specs.Prelude.{List, [], Option, length, map, take}
 use Rattle.array_meaning.specs.Sections.{extents}
-use Rattle.machine_steps.specs.CopyLayout.{copy_layout}
 use Rattle.machine_steps.specs.Layout.{Layout}
 use Rattle.message_text.specs.InstructionLines.{copy_rows, rows_after}
-use Rattle.message_text.specs.Parts.{Setting, with_copies}
+use Rattle.message_text.specs.Parts.{Setting, with_copies, with_copy}
+use Rattle.code_meaning.specs.Anchors.{anchor_in}
+use Rattle.code_meaning.specs.Beside.{Anchor}
+use Rattle.node_code.specs.Anchors.{FlatAnchor}
 use Rattle.node_code.specs.NestStatements.{NestStatement}
 use Rattle.code_meaning.specs.NestStatements.{copies_extents}
 use Rattle.node_code.specs.Forms.{Sub}
@@ -21,9 +23,13 @@ abbrev pub names_layouts : Before → List Layout
 names_layouts b = take (length b.names.now) b.owners.now.layouts
 
 -- the same, and after them a copy with an element for each tuple of the space of this section
-abbrev pub copy_layouts : Before → List Sub → List Layout
-copy_layouts b over = names_layouts b ++ copy_layout b.owners.now.nodes (extents (selections_in b.slots.now over)) ∷ []
+abbrev pub copy_layouts : Before → Option Anchor → List Sub → List Layout
+copy_layouts b anchor over = with_copy (setting_before b) (names_layouts b) anchor (extents (selections_in b.slots.now over))
+
+-- beside this
+abbrev pub layouts_beside : Before → Option FlatAnchor → List Sub → List Layout
+layouts_beside b beside over = copy_layouts b (anchor_in b.slots.now over beside) over
 
 -- the same, and after them the copies that a statement of a nest names
 abbrev pub nest_layouts : Before → NestStatement → List Layout
-nest_layouts b p = with_copies (setting_before b) (names_layouts b) (rows_after (length (names_layouts b)) (copy_rows p)) (copies_extents p.over b.slots.now)
+nest_layouts b p = with_copies (setting_before b) (names_layouts b) (rows_after (length (names_layouts b)) (copy_rows p)) (anchor_in b.slots.now p.over p.beside) (copies_extents p.over b.slots.now)

@@ -1,6 +1,6 @@
 //! The lines of an instruction.
 
-ghost use Rattle.std.specs.Prelude.{◌≡◌, ◌==◌, ◌≤◌, ◌++◌, [], ℕ, All, IfOk, List, OnOk, length, map, nat_le, take, true};
+ghost use Rattle.std.specs.Prelude.{◌≡◌, ◌==◌, ◌≤◌, ◌++◌, [], ℕ, All, IfOk, List, None, OnOk, length, map, nat_le, option_copied, option_map, take, true};
 ghost use Rattle.std.specs.List.{list_all};
 ghost use Rattle.hpf_base.specs.declared.limits.TheConstants.{MAX_ELEMENTS, MAX_RANK};
 ghost use Rattle.hpf_base.specs.ElementOrder.{product};
@@ -16,10 +16,10 @@ ghost use Rattle.code_meaning.specs.Forms.{selections_in};
 ghost use Rattle.code_meaning.specs.Instructions.{remappings};
 ghost use Rattle.code_meaning.specs.NestStatements.{nest_spot, nest_tuples};
 ghost use Rattle.code_meaning.specs.Parallel.{assigned_spot, assignment_tuples, copy_spot, evaluation_tuples, forall_mask_tuples, forall_spot, forall_tuples, reduction_tuples};
-ghost use Rattle.node_code.specs.Texts.{assignment, evaluation, instruction, nest_statement, new_mapping, subs};
+ghost use Rattle.node_code.specs.Texts.{assignment, evaluation, flat_anchor, instruction, nest_statement, new_mapping, subs};
 ghost use Rattle.node_program.specs.Fits.{fits_row, fits_rows, shapes_of};
 ghost use Rattle.node_program.specs.Programs.{mappings_of};
-ghost use Rattle.message_lines.specs.Before.{copy_layouts, names_layouts, nest_layouts, setting_before};
+ghost use Rattle.message_lines.specs.Before.{copy_layouts, layouts_beside, names_layouts, nest_layouts, setting_before};
 
 use crate::before::Before;
 use crate::part_lines::add_part;
@@ -27,12 +27,14 @@ use crate::redistributions::add_redistribution;
 use crate::rows::{Rows, names_rows, rows_of_nest, rows_with_copy};
 use hpf_base::OutOfMemory;
 use name_table::Names;
-use node_code::{Assignment, Evaluation, Instruction, NestRole, NestStatement, NewMapping, Sub};
+use node_code::{
+    Assignment, Evaluation, FlatAnchor, Instruction, NestRole, NestStatement, NewMapping, Sub,
+};
 use node_program::{NodeProgram, owners_after};
 use op_tables::Reduction;
-use owner_tables::Owners;
+use owner_tables::{Anchor, Owners};
 use part_steps::Who;
-use slot_values::{copy_extents, selections_at};
+use slot_values::{anchor_in, copy_extents, selections_at};
 use std::alloc::Global;
 use term_values::extents;
 use tuple_values::ParallelStatement;
@@ -101,12 +103,12 @@ impl<'a> Before<'a> {
         text: &mut Vec<u8>,
     ) -> Result<(), OutOfMemory>
         requires { nat_le (length (subs p.now.over.items)) MAX_RANK ≡ true }
-        ensures { OnOk result (text.new.items ≡ text.old.items ++ (let ls = copy_layouts self.now (subs p.now.over.items) in
+        ensures { OnOk result (text.new.items ≡ text.old.items ++ (let ls = layouts_beside self.now (assignment p.now).beside (subs p.now.over.items) in
             part_lines (setting_before self.now) ls p.now.line
             (par_part ls (assignment_tuples self.now.program.now.shapes.items (assignment p.now))
             (assigned_spot self.now.program.now.shapes.items (assignment p.now)) self.now.slots.now))) }
     {
-        let rows = self.rows(alloc, &p.over)?;
+        let rows = self.rows_beside(alloc, &p.over, &p.beside)?;
         let shapes = &self.program.shapes;
         let statement = ParallelStatement::of_assignment(alloc, shapes, self.slots, p)?;
         add_part(alloc, &rows, &statement, Who::Left, p.line, text)
@@ -120,12 +122,12 @@ impl<'a> Before<'a> {
         text: &mut Vec<u8>,
     ) -> Result<(), OutOfMemory>
         requires { nat_le (length (subs p.now.over.items)) MAX_RANK ≡ true }
-        ensures { OnOk result (text.new.items ≡ text.old.items ++ (let ls = copy_layouts self.now (subs p.now.over.items) in
+        ensures { OnOk result (text.new.items ≡ text.old.items ++ (let ls = layouts_beside self.now (assignment p.now).beside (subs p.now.over.items) in
             part_lines (setting_before self.now) ls p.now.line
             (par_part ls (forall_tuples self.now.program.now.shapes.items (assignment p.now))
             (forall_spot self.now.program.now.shapes.items (assignment p.now)) self.now.slots.now))) }
     {
-        let rows = self.rows(alloc, &p.over)?;
+        let rows = self.rows_beside(alloc, &p.over, &p.beside)?;
         let shapes = &self.program.shapes;
         let statement = ParallelStatement::of_forall_assignment(alloc, shapes, self.slots, p)?;
         add_part(alloc, &rows, &statement, Who::Left, p.line, text)
@@ -163,8 +165,7 @@ impl<'a> Before<'a> {
             (par_part ls (nest_tuples self.now.program.now.shapes.items (nest_statement p.now))
             (nest_spot self.now.program.now.shapes.items (nest_statement p.now)) self.now.slots.now))) }
     {
-        let extents = space_extents(alloc, self.slots, &p.over)?;
-        let rows = rows_of_nest(alloc, self.names, self.owners, &extents, p)?;
+        let rows = self.nest_rows(alloc, p)?;
         let shapes = &self.program.shapes;
         let statement = ParallelStatement::of_nest(alloc, shapes, self.slots, p)?;
         add_part(alloc, &rows, &statement, Who::Left, p.line, text)
@@ -179,12 +180,12 @@ impl<'a> Before<'a> {
         text: &mut Vec<u8>,
     ) -> Result<(), OutOfMemory>
         requires { nat_le (length (subs p.now.over.items)) MAX_RANK ≡ true }
-        ensures { OnOk result (text.new.items ≡ text.old.items ++ (let ls = copy_layouts self.now (subs p.now.over.items) in
+        ensures { OnOk result (text.new.items ≡ text.old.items ++ (let ls = layouts_beside self.now (evaluation p.now).beside (subs p.now.over.items) in
             part_lines (setting_before self.now) ls p.now.line
             (par_part ls (evaluation_tuples self.now.program.now.shapes.items (evaluation p.now))
             (copy_spot copy) self.now.slots.now))) }
     {
-        let rows = self.rows(alloc, &p.over)?;
+        let rows = self.rows_beside(alloc, &p.over, &p.beside)?;
         let shapes = &self.program.shapes;
         let statement = ParallelStatement::of_evaluation(alloc, shapes, self.slots, p, copy)?;
         add_part(alloc, &rows, &statement, Who::Left, p.line, text)
@@ -199,12 +200,12 @@ impl<'a> Before<'a> {
         text: &mut Vec<u8>,
     ) -> Result<(), OutOfMemory>
         requires { nat_le (length (subs p.now.over.items)) MAX_RANK ≡ true }
-        ensures { OnOk result (text.new.items ≡ text.old.items ++ (let ls = copy_layouts self.now (subs p.now.over.items) in
+        ensures { OnOk result (text.new.items ≡ text.old.items ++ (let ls = layouts_beside self.now (evaluation p.now).beside (subs p.now.over.items) in
             part_lines (setting_before self.now) ls p.now.line
             (par_part ls (forall_mask_tuples self.now.program.now.shapes.items (evaluation p.now))
             (copy_spot copy) self.now.slots.now))) }
     {
-        let rows = self.rows(alloc, &p.over)?;
+        let rows = self.rows_beside(alloc, &p.over, &p.beside)?;
         let shapes = &self.program.shapes;
         let statement = ParallelStatement::of_forall_mask(alloc, shapes, self.slots, p, copy)?;
         add_part(alloc, &rows, &statement, Who::Left, p.line, text)
@@ -219,12 +220,12 @@ impl<'a> Before<'a> {
         text: &mut Vec<u8>,
     ) -> Result<(), OutOfMemory>
         requires { nat_le (length (subs p.now.over.items)) MAX_RANK ≡ true }
-        ensures { OnOk result (text.new.items ≡ text.old.items ++ (let ls = copy_layouts self.now (subs p.now.over.items) in
+        ensures { OnOk result (text.new.items ≡ text.old.items ++ (let ls = copy_layouts self.now None (subs p.now.over.items) in
             part_lines (setting_before self.now) ls p.now.line
             (reduce_part self.now.owners.now.nodes ls
             (reduction_tuples self.now.program.now.shapes.items (evaluation p.now) reduction.now.made) self.now.slots.now))) }
     {
-        let rows = self.rows(alloc, &p.over)?;
+        let rows = self.rows(alloc, &p.over, None)?;
         let shapes = &self.program.shapes;
         let statement = ParallelStatement::of_reduction(
             alloc,
@@ -253,16 +254,57 @@ impl<'a> Before<'a> {
         add_redistribution(alloc, &rows, &after, line, text)
     }
 
-    /// The declared names, and after them a copy with an element for each tuple of the space of this section.
-    fn rows(&self, alloc: Global, over: &[Sub]) -> Result<Rows<'a>, OutOfMemory>
+    /// The declared names, and after them the copies that a statement of a nest names.
+    fn nest_rows(&self, alloc: Global, p: &'a NestStatement) -> Result<Rows<'a>, OutOfMemory>
+        requires { nat_le (length (subs p.now.over.items)) MAX_RANK ≡ true }
+        ensures names { IfOk result (λ r. r.names.now ≡ self.now.names.now) }
+        ensures owners { IfOk result (λ r. r.owners ≡ record { layouts = nest_layouts self.now (nest_statement p.now); nodes = self.now.owners.now.nodes }) }
+        ensures copies { IfOk result (λ r. r.copies.now ≡ p.now.copies.items) }
+        ensures copied { IfOk result (λ r. r.copied.now ≡ p.now.names.items) }
+    {
+        let extents = space_extents(alloc, self.slots, &p.over)?;
+        let anchor = anchor_in(alloc, self.slots, &p.over, &p.beside)?;
+        rows_of_nest(alloc, self.names, self.owners, anchor.as_ref(), &extents, p)
+    }
+
+    /// The declared names, and after them a copy with an element for each tuple of the space of this section, beside this.
+    fn rows_beside(
+        &self,
+        alloc: Global,
+        over: &[Sub],
+        beside: &Option<FlatAnchor>,
+    ) -> Result<Rows<'a>, OutOfMemory>
         requires { nat_le (length (subs over.now)) MAX_RANK ≡ true }
         ensures names { IfOk result (λ r. r.names.now ≡ self.now.names.now) }
-        ensures owners { IfOk result (λ r. r.owners ≡ record { layouts = copy_layouts self.now (subs over.now); nodes = self.now.owners.now.nodes }) }
+        ensures owners { IfOk result (λ r. r.owners ≡ record {
+          layouts = layouts_beside self.now (option_map flat_anchor beside.now) (subs over.now);
+          nodes = self.now.owners.now.nodes;
+        }) }
+        ensures copies { IfOk result (λ r. r.copies.now ≡ []) }
+        ensures copied { IfOk result (λ r. r.copied.now ≡ []) }
+    {
+        let anchor = anchor_in(alloc, self.slots, over, beside)?;
+        self.rows(alloc, over, anchor.as_ref())
+    }
+
+    /// The declared names, and after them a copy with an element for each tuple of the space of this section, by this anchor.
+    fn rows(
+        &self,
+        alloc: Global,
+        over: &[Sub],
+        anchor: Option<&Anchor>,
+    ) -> Result<Rows<'a>, OutOfMemory>
+        requires { nat_le (length (subs over.now)) MAX_RANK ≡ true }
+        ensures names { IfOk result (λ r. r.names.now ≡ self.now.names.now) }
+        ensures owners { IfOk result (λ r. r.owners ≡ record {
+          layouts = copy_layouts self.now (option_copied anchor.entry) (subs over.now);
+          nodes = self.now.owners.now.nodes;
+        }) }
         ensures copies { IfOk result (λ r. r.copies.now ≡ []) }
         ensures copied { IfOk result (λ r. r.copied.now ≡ []) }
     {
         let extents = space_extents(alloc, self.slots, over)?;
-        rows_with_copy(alloc, self.names, self.owners, &extents)
+        rows_with_copy(alloc, self.names, self.owners, anchor, &extents)
     }
 }
 

@@ -98,7 +98,15 @@ masked = trail_lines two_setting (lies (Block 2) ∷ lies (Cyclic 1) ∷ copy_la
     (s.Then 4 (s.Where (e.Binary op.Gt (e.Name A) (n 0)) (record { line = 4; left = record { name = B; subscripts = None }; right = e.Name A } ∷ []) [])
     (s.Then 5 (s.Assign (record { name = I; subscripts = None }) (e.Call op.Sum sum)) s.Done)))
 
--- node 0 computes for A(5), which isn't there
+-- the mask lies beside A, and B lies otherwise
+-- INTEGER :: A(4) = 1, B(4), I|!HPF$ DISTRIBUTE A(BLOCK)|!HPF$ DISTRIBUTE B(CYCLIC)|WHERE (A > 0)|A = 2|B = A|END WHERE|END
+abbrev pub masked_apart : List ℕ
+masked_apart = trail_lines two_setting (lies (Block 2) ∷ lies (Cyclic 1) ∷ copy_layout 2 (0 ∷ []) ∷ []) (trail_of two_names
+    (s.Then 4 (s.Where (e.Binary op.Gt (e.Name A) (n 0))
+    (record { line = 5; left = record { name = A; subscripts = None }; right = n 2 } ∷ record { line = 6; left = record { name = B; subscripts = None }; right = e.Name A } ∷ [])
+    []) s.Done))
+
+-- node 0 computes for A(5), which isn't there, so that the mask lies in blocks
 -- INTEGER :: A(4) = 1, B(4), I|!HPF$ DISTRIBUTE A(BLOCK)|!HPF$ DISTRIBUTE B(CYCLIC)|FORALL (I=3:5, I<5) A(I) = B(I-1)|END
 abbrev pub left_outside : List ℕ
 left_outside = trail_lines two_setting (lies (Block 2) ∷ lies (Cyclic 1) ∷ copy_layout 2 (0 ∷ []) ∷ []) (trail_of two_names
@@ -161,6 +169,14 @@ new_and_reduction = trail_lines nest_setting nest_start (trail_of nest_names (nu
     (s.Then 7 (s.Assign (left T e.Absent) (e.Binary op.Sub (e.Element A at_i) (e.Name I)))
     (s.Then 8 (s.Assign (left S e.Absent) (e.Binary op.Add (e.Name S) (e.Name T)))
     (s.Then 9 (s.Assign (left A (e.Present (e.Name I))) (e.Name T)) s.Done)))) s.Done))))
+
+-- it stores into no array, so that its copies lie in blocks
+-- INTEGER :: A(6), I, T, S|!HPF$ DISTRIBUTE A(CYCLIC)|!HPF$ INDEPENDENT, NEW(T), REDUCTION(S)|DO I = 1, 6|T = A(I) - I|S = S + T|END DO|END
+abbrev pub sum_alone : List ℕ
+sum_alone = trail_lines nest_setting nest_start (trail_of nest_names
+    (s.Then 4 (s.Do (Some record { line = 3; new = T ∷ []; reduction = S ∷ [] }) record { index = I; first = n 1; last = n 6; step = None }
+    (s.Then 5 (s.Assign (left T e.Absent) (e.Binary op.Sub (e.Element A at_i) (e.Name I)))
+    (s.Then 6 (s.Assign (left S e.Absent) (e.Binary op.Add (e.Name S) (e.Name T))) s.Done))) s.Done))
 
 -- INTEGER :: A(6), I, T, S|!HPF$ DISTRIBUTE A(CYCLIC)|!HPF$ INDEPENDENT|DO I = 1, 6|IF (I > 4) A(I) = 1|END DO|END
 abbrev pub known_condition : List ℕ

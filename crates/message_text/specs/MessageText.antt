@@ -11,7 +11,7 @@ use Rattle.machine_steps.specs.Machine.{remapped}
 use Rattle.machine_steps.specs.Message.{Part, message, remap_message}
 use Rattle.letters.specs.declared.pair.Pair.{Pair}
 use Rattle.machine_steps.specs.Rounds.{remap_rounds}
-use Rattle.message_text.specs.Parts.{Setting, part_of, space_of, with_copy, with_copies, with_copied, copies_of}
+use Rattle.message_text.specs.Parts.{Setting, part_of, space_of, anchor_of, with_copy, with_copies, with_copied, copies_of}
 use Rattle.run_report.specs.TupleText.{tuple_text}
 
 -- ---- elements and lines
@@ -72,10 +72,11 @@ redistribution_lines s line old new = rounds_lines s line old new 1 (remap_round
 abbrev pub event_lines : Setting → List Layout → ℕ → List ℤ → Event → List ℕ
 event_lines s layouts line scalars Redistributed = redistribution_lines s line layouts (remapped (s.moves line) layouts)
 event_lines s layouts line scalars (OfNest nest asked part) =
-    let ls = with_copies s layouts (length nest.assigned + nest.conditions) (index_extents nest.axes) in
+    let ls = with_copies s layouts (length nest.assigned + nest.conditions) (anchor_of scalars (OfNest nest asked part)) (index_extents nest.axes) in
     part_lines (with_copied s (copies_of nest scalars) nest.assigned) ls line (part_of s ls scalars (OfNest nest asked part))
 event_lines s layouts line scalars event =
-    part_lines s (with_copy s layouts (space_of event)) line (part_of s (with_copy s layouts (space_of event)) scalars event)
+    let ls = with_copy s layouts (anchor_of scalars event) (space_of event) in
+    part_lines s ls line (part_of s ls scalars event)
 
 abbrev pub entry_lines : Setting → List Layout → TrailEntry → List ℕ
 entry_lines s layouts e = event_lines s layouts e.line e.scalars e.event

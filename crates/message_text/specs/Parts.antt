@@ -1,21 +1,25 @@
 -- Of the claim.
 -- The parts of a trail on nodes: what each reads at a tuple, and who computes it. The owners of the element that is assigned compute it.
-use Rattle.std.specs.Prelude.{ℕ, ◌+◌, ◌==◌, Bool, true, false, List, [], ◌∷◌, ◌++◌, length, map, replicate, ℤ, Option, Some, None}
+use Rattle.std.specs.Prelude.{ℕ, ◌+◌, ◌==◌, Bool, true, false, List, [], ◌∷◌, ◌++◌, length, map, replicate, ℤ, pos, Option, Some, None}
 use Rattle.std.specs.Result.{result_unwrap_or}
 use Rattle.expression_rules.specs.declared.dims.Dim.{Dim}
 use Rattle.storage.specs.Storage.{Spot}
 use Rattle.array_meaning.specs.Terms.{Term, Element, Apply, Terms, NoTerm, More}
 use Rattle.array_meaning.specs.Sections.{positions, subscripts_at}
-use Rattle.array_meaning.specs.Expressions.{values}
-use Rattle.array_meaning.specs.Forall.{index_extents, indices_at}
+use Rattle.array_meaning.specs.State.{State}
+use Rattle.array_meaning.specs.declared.sections.Sequence.{Sequence}
+use Rattle.array_meaning.specs.Expressions.{value, values}
+use Rattle.array_meaning.specs.Forall.{index_extents, indices_at, linear}
+use Rattle.statement_trail.specs.Anchors.{AnchorTerm, AtTerm, AlongTerms, AnchorText}
 use Rattle.statement_trail.specs.NestParts.{EnteredNest, NestPart, ScalarPart, ElementPart, ConditionPart, index_in, copied_in, scalar_copy, condition_copy}
 use Rattle.nest_syntax.specs.Asked.{Asked}
 use Rattle.statement_trail.specs.Trail.{Event, SectionAssigned, WhereMask, Reduced, ForallMask, ElementsAssigned, OfNest, Redistributed}
 use Rattle.machine_steps.specs.Instr.{Remapping}
 use Rattle.machine_steps.specs.Layout.{Layout, in_bounds}
 use Rattle.machine_steps.specs.Message.{Part, computes_left, first_read, least_or_zero}
-use Rattle.machine_steps.specs.CopyLayout.{copy_layout}
 use Rattle.machine_steps.specs.Space.{space_count}
+use Rattle.code_meaning.specs.Beside.{Anchor, aligned_layout}
+use Rattle.code_meaning.specs.Anchors.{AnchorValue, LinearValue, TripletValue, anchor_by}
 use Rattle.code_meaning.specs.Parallel.{reads_at, spot_of}
 use Rattle.nest_syntax.specs.NestTerms.{indexed, all_indexed}
 
@@ -31,8 +35,11 @@ pub record Setting : Type 0 where
 
 -- ---- expressions of a FORALL, where the indices have these values. Its subscripts name no element
 
+abbrev pub scalars_state : List ℤ → State
+scalars_state scalars = record { scalars = scalars; arrays = []; printed = [] }
+
 abbrev pub subscripts_in : List ℤ → List ℤ → Terms → List ℤ
-subscripts_in scalars indices ts = result_unwrap_or (values indices (record { scalars = scalars; arrays = []; printed = [] }) ts) []
+subscripts_in scalars indices ts = result_unwrap_or (values indices (scalars_state scalars) ts) []
 
 module _ (shapes : List (List Dim)) (scalars : List ℤ) (indices : List ℤ) where
   abbrev mutual
@@ -79,11 +86,11 @@ module _ (nest : EnteredNest) (scalars : List ℤ) where
 
 -- the extents of the space of a part
 abbrev pub space_of : Event → List ℕ
-space_of (SectionAssigned masked ns a ds x) = ns
-space_of (WhereMask ns x) = ns
+space_of (SectionAssigned masked beside ns a ds x) = ns
+space_of (WhereMask beside ns x) = ns
 space_of (Reduced o ns x) = ns
-space_of (ForallMask axes t) = index_extents axes
-space_of (ElementsAssigned masked axes a ts t) = index_extents axes
+space_of (ForallMask beside axes t) = index_extents axes
+space_of (ElementsAssigned masked beside axes a ts t) = index_extents axes
 space_of (OfNest nest asked part) = index_extents nest.axes
 space_of Redistributed = []
 
@@ -97,18 +104,18 @@ mask_reads scalars true t = mask_spot scalars t ∷ []
 
 -- what is read at a tuple: the mask or other copies, and then the elements that the expression names, in the order of the text
 abbrev pub reads_of : Setting → List ℤ → Event → ℕ → List (Option Spot)
-reads_of s scalars (SectionAssigned masked ns a ds x) t = mask_reads scalars masked t ++ reads_at s.shapes (positions ns t) x
-reads_of s scalars (WhereMask ns x) t = reads_at s.shapes (positions ns t) x
+reads_of s scalars (SectionAssigned masked beside ns a ds x) t = mask_reads scalars masked t ++ reads_at s.shapes (positions ns t) x
+reads_of s scalars (WhereMask beside ns x) t = reads_at s.shapes (positions ns t) x
 reads_of s scalars (Reduced o ns x) t = reads_at s.shapes (positions ns t) x
-reads_of s scalars (ForallMask axes e) t = named_in s.shapes scalars (indices_at axes t) e
-reads_of s scalars (ElementsAssigned masked axes a ts e) t = mask_reads scalars masked t ++ named_in s.shapes scalars (indices_at axes t) e
+reads_of s scalars (ForallMask beside axes e) t = named_in s.shapes scalars (indices_at axes t) e
+reads_of s scalars (ElementsAssigned masked beside axes a ts e) t = mask_reads scalars masked t ++ named_in s.shapes scalars (indices_at axes t) e
 reads_of s scalars (OfNest nest asked part) t = conditions_read nest scalars asked t ++ part_read nest scalars s.shapes part t
 reads_of s scalars Redistributed t = []
 
 -- the element that is assigned at a tuple, of an array or of a copy
 abbrev pub left_of : Setting → List ℤ → Event → ℕ → Option Spot
-left_of s scalars (SectionAssigned masked ns a ds x) t = spot_of s.shapes a (subscripts_at ds (positions ns t))
-left_of s scalars (ElementsAssigned masked axes a ts e) t = spot_of s.shapes a (subscripts_in scalars (indices_at axes t) ts)
+left_of s scalars (SectionAssigned masked beside ns a ds x) t = spot_of s.shapes a (subscripts_at ds (positions ns t))
+left_of s scalars (ElementsAssigned masked beside axes a ts e) t = spot_of s.shapes a (subscripts_in scalars (indices_at axes t) ts)
 left_of s scalars (OfNest nest asked part) t = part_assigned nest scalars s.shapes part t
 left_of s scalars event t = mask_spot scalars t
 
@@ -126,13 +133,36 @@ part_of s layouts scalars event = record {
   computes = computes s layouts scalars event;
 }
 
--- the declared names lie so, and after them a copy of these extents
-abbrev pub with_copy : Setting → List Layout → List ℕ → List Layout
-with_copy s layouts ns = layouts ++ copy_layout s.nodes ns ∷ []
+-- ---- what copies lie beside: by the scalars
 
--- or so many copies of these extents
-abbrev pub with_copies : Setting → List Layout → (count : ℕ) → List ℕ → List Layout
-with_copies s layouts count ns = layouts ++ replicate count (copy_layout s.nodes ns)
+abbrev pub term_value : List ℤ → Term → ℤ
+term_value scalars t = result_unwrap_or (value [] (scalars_state scalars) t) (pos 0)
+
+abbrev pub anchor_at : List ℤ → AnchorTerm → AnchorValue
+anchor_at scalars (AtTerm t) = LinearValue (linear (scalars_state scalars) t)
+anchor_at scalars (AlongTerms first stride) = TripletValue (term_value scalars first) (term_value scalars stride)
+
+-- over indices that take these values
+abbrev pub anchor_over : List ℤ → List Sequence → Option AnchorText → Option Anchor
+anchor_over scalars axes None = None
+anchor_over scalars axes (Some a) = anchor_by a.array axes (map (anchor_at scalars) a.subscripts)
+
+-- an array statement has no indices
+abbrev pub anchor_of : List ℤ → Event → Option Anchor
+anchor_of scalars (SectionAssigned masked beside ns a ds x) = anchor_over scalars [] beside
+anchor_of scalars (WhereMask beside ns x) = anchor_over scalars [] beside
+anchor_of scalars (ForallMask beside axes t) = anchor_over scalars axes beside
+anchor_of scalars (ElementsAssigned masked beside axes a ts t) = anchor_over scalars axes beside
+anchor_of scalars (OfNest nest asked part) = anchor_over scalars nest.axes nest.beside
+anchor_of scalars event = None
+
+-- the declared names lie so, and after them a copy of these extents, beside what is assigned at its tuples where that is good
+abbrev pub with_copy : Setting → List Layout → Option Anchor → List ℕ → List Layout
+with_copy s layouts beside ns = layouts ++ aligned_layout s.nodes layouts beside ns ∷ []
+
+-- or so many such copies
+abbrev pub with_copies : Setting → List Layout → (count : ℕ) → Option Anchor → List ℕ → List Layout
+with_copies s layouts count beside ns = layouts ++ replicate count (aligned_layout s.nodes layouts beside ns)
 
 -- where these rows have copies of these scalars
 abbrev pub with_copied : Setting → (copies copied : List ℕ) → Setting

@@ -1,4 +1,5 @@
 mod NamedElements
+mod Anchors
 mod TrailPlaces
 mod MoreRows
 mod NestLines

@@ -16,23 +16,26 @@ use Rattle.nest_syntax.specs.Asked.{Asked}
 use Rattle.statement_trail.specs.Trail.{OfNest}
 use Rattle.machine_steps.specs.Layout.{Layout, in_bounds}
 use Rattle.machine_steps.specs.Message.{computes_left, par_part}
-use Rattle.machine_steps.specs.CopyLayout.{copy_layout}
 use Rattle.machine_steps.specs.Space.{space_count}
+use Rattle.code_meaning.specs.Beside.{Anchor, aligned_layout}
+use Rattle.code_meaning.specs.Anchors.{anchor_in}
 use Rattle.code_meaning.specs.Flat.{slot}
 use Rattle.code_meaning.specs.Forms.{selections_in, selections_at, elemental_at}
 use Rattle.code_meaning.specs.Parallel.{reads_at, spot_of, indices_in}
 use Rattle.node_code.specs.NestStatements.{NestStatement, NestLeft, CopyLeft}
 use Rattle.code_meaning.specs.NestStatements.{when_spots, row_spots, form_reads, nest_tuples, nest_spot, copies_extents}
 use Rattle.program_code.specs.ExpressionCode.{index_form, index_subs}
+use Rattle.lowered_expressions.specs.Anchors.{IsBeside}
 use Rattle.lowered_expressions.specs.NestEvents.{whens_for, AreStored, index_for, Evaluates, IsPart}
 use Rattle.nest_syntax.specs.NestTerms.{scalar_or_index, indexed, all_indexed, NamesFirst, AllNameFirst, SubscriptsFirst, AllSubscriptsFirst}
 use Rattle.lowered_expressions.specs.WellFormed.{IsSubscript, AreSubscripts, IsIndexed, AreIndexed}
-use Rattle.message_text.specs.Parts.{Setting, subscripts_in, named_in, all_named_in, copy_at, conditions_read, right_read, part_read, part_assigned, part_of, with_copies, with_copied, copies_of}
+use Rattle.message_text.specs.Parts.{Setting, subscripts_in, named_in, all_named_in, copy_at, conditions_read, right_read, part_read, part_assigned, anchor_over, part_of, with_copies, with_copied, copies_of}
 use Rattle.message_text.specs.MessageText.{scalar_of, name_by, row_name, part_lines}
 use Rattle.message_text.specs.InstructionLines.{copy_rows, left_rows, rows_after}
 use Rattle.well_formed.proofs.JoinedNames.{eq-is, ne-is, in-from, in-both-some, in-both-none}
 use Rattle.well_formed.proofs.Listed.{in-some, once-in, these-in}
 use Rattle.lowered_expressions.proofs.Indexed.{axes-extents}
+use Rattle.messages_lowered.proofs.Anchors.{beside-same}
 use Rattle.messages_lowered.proofs.NamedElements.{subscripts-same, named-same, indices-same}
 use Rattle.messages_lowered.proofs.MoreRows.{ReadsIn, reads-both, part-lines-same}
 
@@ -218,7 +221,8 @@ some-row x y e = ap (row_of x.row) e
 
 module _ (s : Setting) (layouts : List Layout) (line : ℕ) (scalars slots : List ℤ) (holds : (k : ℕ) → k < length scalars → slot slots k ≡ slice_index_or scalars k (pos 0))
     (laid : length layouts ≡ length scalars) (N : EnteredNest) (p : NestStatement) (asked : List Asked) (part : NestPart)
-    (over : selections_in slots p.over ≡ map Along N.axes) (whens : p.whens ≡ whens_for (length scalars) N asked) (stored : AreStored (length scalars) N asked) (is : IsPart (length scalars) N p part) where
+    (over : selections_in slots p.over ≡ map Along N.axes) (whens : p.whens ≡ whens_for (length scalars) N asked) (stored : AreStored (length scalars) N asked) (is : IsPart (length scalars) N p part)
+    (besides : IsBeside (length scalars) p.beside N.beside) where
   abbrev n : ℕ
   n = length scalars
 
@@ -430,27 +434,34 @@ module _ (s : Setting) (layouts : List Layout) (line : ℕ) (scalars slots : Lis
 
   -- ---- all together
 
+  -- what they lie beside, and how
+  abbrev anchor : Option Anchor
+  anchor = anchor_in slots p.over p.beside
+
+  abbrev lying : Layout
+  lying = aligned_layout s.nodes layouts anchor (copies_extents p.over slots)
+
   abbrev copies_of_event : List Layout
-  copies_of_event = with_copies s layouts (length N.assigned + N.conditions) (index_extents N.axes)
+  copies_of_event = with_copies s layouts (length N.assigned + N.conditions) (anchor_over scalars N.axes N.beside) (index_extents N.axes)
 
   abbrev copies_here : List Layout
-  copies_here = with_copies s layouts count (copies_extents p.over slots)
+  copies_here = with_copies s layouts count anchor (copies_extents p.over slots)
 
   abbrev more : List Layout
-  more = replicate (length N.assigned + N.conditions - count) (copy_layout s.nodes (copies_extents p.over slots))
+  more = replicate (length N.assigned + N.conditions - count) lying
 
   event-layouts : copies_of_event ≡ copies_here ++ more
   event-layouts =
       let f = few in
       let e : length N.assigned + N.conditions ≡ count + (length N.assigned + N.conditions - count) = omega (arith, f) in
-      let x : Layout = copy_layout s.nodes (copies_extents p.over slots) in
-      ap (λ ns. layouts ++ replicate (length N.assigned + N.conditions) (copy_layout s.nodes ns)) (sym sizes-same)
-      ∙ ap (λ c. layouts ++ replicate c x) e
-      ∙ ap (λ l. layouts ++ l) (replicate-both count (length N.assigned + N.conditions - count) x)
-      ∙ sym (append_assoc layouts (replicate count x) more)
+      let same : anchor ≡ anchor_over scalars N.axes N.beside = beside-same scalars slots holds p.over N.axes p.beside N.beside over besides in
+      (λ i. with_copies s layouts (length N.assigned + N.conditions) (sym same i) (sym sizes-same i))
+      ∙ ap (λ c. layouts ++ replicate c lying) e
+      ∙ ap (λ l. layouts ++ l) (replicate-both count (length N.assigned + N.conditions - count) lying)
+      ∙ sym (append_assoc layouts (replicate count lying) more)
 
   long-here : length copies_here ≡ n + count
-  long-here = let a = length-append layouts (replicate count (copy_layout s.nodes (copies_extents p.over slots))) in let b = length-replicate count (copy_layout s.nodes (copies_extents p.over slots)) in omega (arith, a, b, laid)
+  long-here = let a = length-append layouts (replicate count lying) in let b = length-replicate count lying in omega (arith, a, b, laid)
 
   pub nest-lines-same : part_lines own_setting copies_here line (par_part copies_here (nest_tuples s.shapes p) (nest_spot s.shapes p) slots)
       ≡ part_lines event_setting copies_of_event line (part_of s copies_of_event scalars (OfNest N asked part))

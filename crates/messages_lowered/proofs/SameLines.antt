@@ -7,12 +7,15 @@ use Rattle.expression_rules.specs.declared.dims.Dim.{Dim}
 use Rattle.array_meaning.specs.Forall.{index_extents, indices_at}
 use Rattle.array_meaning.specs.Sections.{extents, positions, subscripts_at}
 use Rattle.array_meaning.specs.Terms.{Term, Terms}
+use Rattle.statement_trail.specs.Anchors.{AnchorText}
 use Rattle.statement_trail.specs.Trail.{Event, Trail, SectionAssigned, WhereMask, Reduced, ForallMask, ElementsAssigned, Redistributed}
 use Rattle.array_meaning.specs.declared.sections.Selection.TheVariants.{Along}
 use Rattle.array_meaning.specs.declared.sections.Sequence.{Sequence}
 use Rattle.machine_steps.specs.Layout.{Layout, in_bounds}
 use Rattle.machine_steps.specs.Machine.{remapped, with_mapping}
 use Rattle.machine_steps.specs.Message.{par_part, computes_left}
+use Rattle.code_meaning.specs.Beside.{Anchor}
+use Rattle.code_meaning.specs.Anchors.{anchor_in}
 use Rattle.code_meaning.specs.Flat.{slot}
 use Rattle.code_meaning.specs.Forms.{selections_in, selections_at, elemental_in, elemental_at}
 use Rattle.node_code.specs.Instructions as code
@@ -24,7 +27,7 @@ use Rattle.code_meaning.specs.Parallel.{reads_at, spot_of, indices_in, evaluatio
 use Rattle.program_code.specs.ExpressionCode.{index_subs, index_form}
 use Rattle.lowered_expressions.specs.Passed.{Passed, IsMaskCopy, IsEvent, IsTrail}
 use Rattle.lowered_expressions.specs.WellFormed.{AreSubscripts, IsIndexed}
-use Rattle.message_text.specs.Parts.{Setting, subscripts_in, named_in, mask_reads, part_of, with_copy, with_copies, with_copied}
+use Rattle.message_text.specs.Parts.{Setting, subscripts_in, named_in, mask_reads, anchor_over, part_of, with_copy, with_copies, with_copied}
 use Rattle.message_text.specs.MessageText.{part_lines, redistribution_lines, event_lines, trail_lines}
 use Rattle.passed_states.specs.TrailLayouts as trail
 use Rattle.message_text.specs.InstructionLines.{instruction_lines}
@@ -35,6 +38,7 @@ use Rattle.node_code.specs.NestStatements.{NestStatement}
 use Rattle.code_meaning.specs.NestStatements.{nest_tuples, nest_spot, copies_extents}
 use Rattle.lowered_expressions.specs.NestEvents.{IsPart}
 use Rattle.message_text.specs.InstructionLines.{rows_after, copy_rows, nest_lines}
+use Rattle.messages_lowered.proofs.Anchors.{beside-same, known-same}
 use Rattle.messages_lowered.proofs.NestLines.{nest-lines-same}
 use Rattle.messages_lowered.proofs.TrailPlaces.{HavePlaces}
 use Rattle.lowered_expressions.proofs.Indexed.{axes-extents}
@@ -58,28 +62,28 @@ module _ (nodes : ℕ) (names : List (List ℕ)) (shapes : List (List Dim)) (map
 
   module _ (layouts : List Layout) (line : ℕ) (scalars slots : List ℤ)
       (holds : (k : ℕ) → k < length scalars → slot slots k ≡ slice_index_or scalars k (pos 0)) (laid : length layouts ≡ length scalars) where
-    par-same : (q : Assignment) → IsMaskCopy (length scalars) q.mask → (ls : List Layout)
+    par-same : (q : Assignment) (beside : Option AnchorText) → IsMaskCopy (length scalars) q.mask → (ls : List Layout)
         → par_part ls (parallel.assignment_tuples s.shapes q) (parallel.assigned_spot s.shapes q) slots
-        ≡ part_of s ls scalars (SectionAssigned (is_some q.mask) (extents (selections_in slots q.over)) q.array (selections_in slots q.left) (elemental_in slots q.right))
-    par-same q masks ls = λ i. record {
+        ≡ part_of s ls scalars (SectionAssigned (is_some q.mask) beside (extents (selections_in slots q.over)) q.array (selections_in slots q.left) (elemental_in slots q.right))
+    par-same q beside masks ls = λ i. record {
       tuples = space_count (extents (selections_in slots q.over));
       reads = λ t. masks-same scalars q.mask masks t i ++ reads_at s.shapes (positions (extents (selections_in slots q.over)) t) (elemental_in slots q.right);
       computes = λ node t. computes_left ls node
           (in_bounds ls (spot_of s.shapes q.array (subscripts_at (selections_in slots q.left) (positions (extents (selections_in slots q.over)) t))));
     }
 
-    copy-same : (copy : ℕ) (q : Evaluation) → copy ≡ length scalars → (ls : List Layout)
-        → par_part ls (parallel.evaluation_tuples s.shapes q) (copy_spot copy) slots ≡ part_of s ls scalars (WhereMask (evaluation_extents q slots) (elemental_in slots q.form))
-    copy-same copy q e ls = λ i. record {
+    copy-same : (copy : ℕ) (q : Evaluation) (beside : Option AnchorText) → copy ≡ length scalars → (ls : List Layout)
+        → par_part ls (parallel.evaluation_tuples s.shapes q) (copy_spot copy) slots ≡ part_of s ls scalars (WhereMask beside (evaluation_extents q slots) (elemental_in slots q.form))
+    copy-same copy q beside e ls = λ i. record {
       tuples = space_count (evaluation_extents q slots);
       reads = λ t. reads_at s.shapes (positions (evaluation_extents q slots) t) (elemental_in slots q.form);
       computes = λ node t. computes_left ls node (in_bounds ls (Some record { row = e i; at = t }));
     }
 
-    forall-same : (q : Assignment) (axes : List Sequence) (ts : Terms) (t : Term) → selections_in slots q.over ≡ map Along axes → q.left ≡ index_subs ts → q.right ≡ index_form t
+    forall-same : (q : Assignment) (beside : Option AnchorText) (axes : List Sequence) (ts : Terms) (t : Term) → selections_in slots q.over ≡ map Along axes → q.left ≡ index_subs ts → q.right ≡ index_form t
         → IsMaskCopy (length scalars) q.mask → AreSubscripts (length scalars) ts → IsIndexed (length scalars) t → (ls : List Layout)
-        → par_part ls (forall_tuples s.shapes q) (forall_spot s.shapes q) slots ≡ part_of s ls scalars (ElementsAssigned (is_some q.mask) axes q.array ts t)
-    forall-same q axes ts t over left right masks oks ok ls = λ i. record {
+        → par_part ls (forall_tuples s.shapes q) (forall_spot s.shapes q) slots ≡ part_of s ls scalars (ElementsAssigned (is_some q.mask) beside axes q.array ts t)
+    forall-same q beside axes ts t over left right masks oks ok ls = λ i. record {
       tuples = space_count (sizes i);
       reads = λ u. reads-same u i;
       computes = λ node u. computes_left ls node (in_bounds ls (spot-same u i));
@@ -105,10 +109,10 @@ module _ (nodes : ℕ) (names : List (List ℕ)) (shapes : List (List Dim)) (map
             ∙ ap (λ y. spot_of s.shapes q.array (subscripts_at (selections_at slots y (index_subs ts)) y)) (indices-same q.over slots axes over u)
             ∙ ap (λ is. spot_of s.shapes q.array is) (subscripts-same s.shapes scalars slots holds (indices_at axes u) ts oks)
 
-    forall-mask-same : (copy : ℕ) (q : Evaluation) (axes : List Sequence) (t : Term) → selections_in slots q.over ≡ map Along axes → q.form ≡ index_form t → copy ≡ length scalars
+    forall-mask-same : (copy : ℕ) (q : Evaluation) (beside : Option AnchorText) (axes : List Sequence) (t : Term) → selections_in slots q.over ≡ map Along axes → q.form ≡ index_form t → copy ≡ length scalars
         → IsIndexed (length scalars) t → (ls : List Layout)
-        → par_part ls (forall_mask_tuples s.shapes q) (copy_spot copy) slots ≡ part_of s ls scalars (ForallMask axes t)
-    forall-mask-same copy q axes t over form is ok ls = λ i. record {
+        → par_part ls (forall_mask_tuples s.shapes q) (copy_spot copy) slots ≡ part_of s ls scalars (ForallMask beside axes t)
+    forall-mask-same copy q beside axes t over form is ok ls = λ i. record {
       tuples = space_count (sizes i);
       reads = λ u. reads-same u i;
       computes = λ node u. computes_left ls node (in_bounds ls (Some record { row = is i; at = u }));
@@ -128,7 +132,7 @@ module _ (nodes : ℕ) (names : List (List ℕ)) (shapes : List (List Dim)) (map
 
     -- a statement that is a part sets no mark
     noted : (q : NestStatement) (N : EnteredNest) (part : NestPart) → IsPart (length scalars) N q part → nest_lines q.role s layouts q slots
-        ≡ (let ls = with_copies s layouts (rows_after (length layouts) (copy_rows q)) (copies_extents q.over slots) in
+        ≡ (let ls = with_copies s layouts (rows_after (length layouts) (copy_rows q)) (anchor_in slots q.over q.beside) (copies_extents q.over slots) in
         part_lines (with_copied s q.copies q.names) ls q.line (par_part ls (nest_tuples s.shapes q) (nest_spot s.shapes q) slots))
     noted q N (ScalarPart k t) h = ap (λ r. nest_lines r s layouts q slots) h.1
     noted q N (ElementPart a ts t) h = ap (λ r. nest_lines r s layouts q slots) h.1
@@ -140,43 +144,60 @@ module _ (nodes : ℕ) (names : List (List ℕ)) (shapes : List (List Dim)) (map
 
     lines-same : (x : Instruction) (event : Event) → IsEvent moves (length scalars) x slots line event → Same x event
     lines-same (Par q) event h =
-        let ls = with_copy s layouts (extents (selections_in slots q.over)) in
-        subst (λ ev. (instruction_lines maps s layouts (Par q) slots ≡ event_lines s layouts line scalars ev) × (layouts ≡ moved s line ev layouts)) (sym h.1) (
-          ap (λ l. part_lines s ls l (par_part ls (parallel.assignment_tuples s.shapes q) (parallel.assigned_spot s.shapes q) slots)) h.0
-              ∙ ap (part_lines s ls line) (par-same q h.2 ls),
+        let ns = extents (selections_in slots q.over) in
+        let beside = h.1.0 in
+        let ls = with_copy s layouts (anchor_over scalars [] beside) ns in
+        subst (λ ev. (instruction_lines maps s layouts (Par q) slots ≡ event_lines s layouts line scalars ev) × (layouts ≡ moved s line ev layouts)) (sym h.1.1) (
+          ap (λ a. part_lines s (with_copy s layouts a ns) q.line (par_part (with_copy s layouts a ns) (parallel.assignment_tuples s.shapes q) (parallel.assigned_spot s.shapes q) slots))
+              (known-same scalars slots holds q.over q.beside beside h.1.3 h.1.4)
+              ∙ ap (λ l. part_lines s ls l (par_part ls (parallel.assignment_tuples s.shapes q) (parallel.assigned_spot s.shapes q) slots)) h.0
+              ∙ ap (part_lines s ls line) (par-same q beside h.1.2 ls),
           refl,
         )
     lines-same (ParCopy copy q) event h =
-        let ls = with_copy s layouts (evaluation_extents q slots) in
-        subst (λ ev. (instruction_lines maps s layouts (ParCopy copy q) slots ≡ event_lines s layouts line scalars ev) × (layouts ≡ moved s line ev layouts)) (sym h.1)
-        (ap (λ l. part_lines s ls l (par_part ls (parallel.evaluation_tuples s.shapes q) (copy_spot copy) slots)) h.0 ∙ ap (part_lines s ls line) (copy-same copy q h.2 ls), refl)
-    lines-same (code.Reduce q r x) event h =
-        subst (λ ev. (instruction_lines maps s layouts (code.Reduce q r x) slots ≡ event_lines s layouts line scalars ev) × (layouts ≡ moved s line ev layouts)) (sym h.1.1) (
-          ap (λ l. part_lines s (with_copy s layouts (evaluation_extents q slots)) l
-              (part_of s (with_copy s layouts (evaluation_extents q slots)) scalars (Reduced h.1.0 (evaluation_extents q slots) (elemental_in slots q.form)))) h.0,
+        let ns = evaluation_extents q slots in
+        let beside = h.1.0 in
+        let ls = with_copy s layouts (anchor_over scalars [] beside) ns in
+        subst (λ ev. (instruction_lines maps s layouts (ParCopy copy q) slots ≡ event_lines s layouts line scalars ev) × (layouts ≡ moved s line ev layouts)) (sym h.1.1) (
+          ap (λ a. part_lines s (with_copy s layouts a ns) q.line (par_part (with_copy s layouts a ns) (parallel.evaluation_tuples s.shapes q) (copy_spot copy) slots))
+              (known-same scalars slots holds q.over q.beside beside h.1.3 h.1.4)
+              ∙ ap (λ l. part_lines s ls l (par_part ls (parallel.evaluation_tuples s.shapes q) (copy_spot copy) slots)) h.0
+              ∙ ap (part_lines s ls line) (copy-same copy q beside h.1.2 ls),
           refl,
         )
+    lines-same (code.Reduce q r x) event h =
+        let ls = with_copy s layouts None (evaluation_extents q slots) in
+        subst (λ ev. (instruction_lines maps s layouts (code.Reduce q r x) slots ≡ event_lines s layouts line scalars ev) × (layouts ≡ moved s line ev layouts)) (sym h.1.1)
+        (ap (λ l. part_lines s ls l (part_of s ls scalars (Reduced h.1.0 (evaluation_extents q slots) (elemental_in slots q.form)))) h.0, refl)
     lines-same (ParForall q) event h =
-        let sizes : extents (selections_in slots q.over) ≡ index_extents h.1.0 = ap extents h.1.4 ∙ axes-extents h.1.0 in
-        let ls = with_copy s layouts (index_extents h.1.0) in
-        subst (λ ev. (instruction_lines maps s layouts (ParForall q) slots ≡ event_lines s layouts line scalars ev) × (layouts ≡ moved s line ev layouts)) (sym h.1.3) (
-          ap (λ ns. part_lines s (with_copy s layouts ns) q.line (par_part (with_copy s layouts ns) (forall_tuples s.shapes q) (forall_spot s.shapes q) slots)) sizes
+        let beside = h.1.0 in
+        let axes = h.1.1 in
+        let sizes : extents (selections_in slots q.over) ≡ index_extents axes = ap extents h.1.5 ∙ axes-extents axes in
+        let same : anchor_in slots q.over q.beside ≡ anchor_over scalars axes beside = beside-same scalars slots holds q.over axes q.beside beside h.1.5 h.1.11 in
+        let lying : Option Anchor → List ℕ → List Layout = with_copy s layouts in
+        let ls = with_copy s layouts (anchor_over scalars axes beside) (index_extents axes) in
+        subst (λ ev. (instruction_lines maps s layouts (ParForall q) slots ≡ event_lines s layouts line scalars ev) × (layouts ≡ moved s line ev layouts)) (sym h.1.4) (
+          (λ i. part_lines s (lying (same i) (sizes i)) q.line (par_part (lying (same i) (sizes i)) (forall_tuples s.shapes q) (forall_spot s.shapes q) slots))
               ∙ ap (λ l. part_lines s ls l (par_part ls (forall_tuples s.shapes q) (forall_spot s.shapes q) slots)) h.0
-              ∙ ap (part_lines s ls line) (forall-same q h.1.0 h.1.1 h.1.2 h.1.4 h.1.5 h.1.6 h.1.7 h.1.8 h.1.9 ls),
+              ∙ ap (part_lines s ls line) (forall-same q beside axes h.1.2 h.1.3 h.1.5 h.1.6 h.1.7 h.1.8 h.1.9 h.1.10 ls),
           refl,
         )
     lines-same (ParForallCopy copy q) event h =
-        let sizes : extents (selections_in slots q.over) ≡ index_extents h.1.0 = ap extents h.1.3 ∙ axes-extents h.1.0 in
-        let ls = with_copy s layouts (index_extents h.1.0) in
-        subst (λ ev. (instruction_lines maps s layouts (ParForallCopy copy q) slots ≡ event_lines s layouts line scalars ev) × (layouts ≡ moved s line ev layouts)) (sym h.1.2) (
-          ap (λ ns. part_lines s (with_copy s layouts ns) q.line (par_part (with_copy s layouts ns) (forall_mask_tuples s.shapes q) (copy_spot copy) slots)) sizes
+        let beside = h.1.0 in
+        let axes = h.1.1 in
+        let sizes : extents (selections_in slots q.over) ≡ index_extents axes = ap extents h.1.4 ∙ axes-extents axes in
+        let same : anchor_in slots q.over q.beside ≡ anchor_over scalars axes beside = beside-same scalars slots holds q.over axes q.beside beside h.1.4 h.1.8 in
+        let lying : Option Anchor → List ℕ → List Layout = with_copy s layouts in
+        let ls = with_copy s layouts (anchor_over scalars axes beside) (index_extents axes) in
+        subst (λ ev. (instruction_lines maps s layouts (ParForallCopy copy q) slots ≡ event_lines s layouts line scalars ev) × (layouts ≡ moved s line ev layouts)) (sym h.1.3) (
+          (λ i. part_lines s (lying (same i) (sizes i)) q.line (par_part (lying (same i) (sizes i)) (forall_mask_tuples s.shapes q) (copy_spot copy) slots))
               ∙ ap (λ l. part_lines s ls l (par_part ls (forall_mask_tuples s.shapes q) (copy_spot copy) slots)) h.0
-              ∙ ap (part_lines s ls line) (forall-mask-same copy q h.1.0 h.1.1 h.1.3 h.1.4 h.1.5 h.1.6 ls),
+              ∙ ap (part_lines s ls line) (forall-mask-same copy q beside axes h.1.2 h.1.4 h.1.5 h.1.6 h.1.7 ls),
           refl,
         )
     lines-same (ParNest q) event h =
-        let e = nest-lines-same s layouts line scalars slots holds laid h.1.0 q h.1.1 h.1.2 h.1.4 h.1.5 h.1.6 h.1.7 in
-        let ls = with_copies s layouts (rows_after (length layouts) (copy_rows q)) (copies_extents q.over slots) in
+        let e = nest-lines-same s layouts line scalars slots holds laid h.1.0 q h.1.1 h.1.2 h.1.4 h.1.5 h.1.6 h.1.7 h.1.8 in
+        let ls = with_copies s layouts (rows_after (length layouts) (copy_rows q)) (anchor_in slots q.over q.beside) (copies_extents q.over slots) in
         subst (λ ev. (instruction_lines maps s layouts (ParNest q) slots ≡ event_lines s layouts line scalars ev) × (layouts ≡ moved s line ev layouts)) (sym h.1.3) (
           noted q h.1.0 h.1.2 h.1.7 ∙ ap (λ l. part_lines (with_copied s q.copies q.names) ls l (par_part ls (nest_tuples s.shapes q) (nest_spot s.shapes q) slots)) h.0 ∙ e,
           refl,

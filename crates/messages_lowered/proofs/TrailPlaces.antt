@@ -27,6 +27,7 @@ use Rattle.array_meaning.specs.NestEntry.{unless_clash, entered}
 use Rattle.array_meaning.specs.Execution as meaning
 use Rattle.array_meaning.specs.Execution.{assign_scalar, assign_element, item_bytes, all_item_bytes, print, iterate, condition, run, run_arms, run_block}
 use Rattle.statement_trail.specs.Trail.{Event, Trail, Reduced, WhereMask, SectionAssigned, ForallMask, OfNest, reached, after_value, after_run, over_own_space, value_trail, values_trail, elemental_trail, elementals_trail, selections_trail, control_trail, all_controls_trail, section_trail, where_trail, forall_trail, forall_mask_trail, forall_parts_trail, if_not_empty, item_trail, all_items_trail, block_parts, statement_parts, arms_parts, nest_trail, marked_trail, after_iteration, iterate_trail, trail, arms_trail, block_trail}
+use Rattle.statement_trail.specs.Anchors.{AnchorText, forall_anchor, where_anchor}
 use Rattle.statement_trail.specs.NestParts.{EnteredNest, ConditionPart, has_statement, conditions_in, conditions_by, in_trip, indices_after, indices_by, entered_nest}
 use Rattle.nest_syntax.specs.Asked.{tested_asked}
 
@@ -334,43 +335,46 @@ module _ (n : ℕ) where
         both (item_trail line s i) (after_value (item_bytes s i) (λ bytes. all_items_trail line s is)) (item-tells i)
         (valued (item_bytes s i) (λ bytes. all_items_trail line s is) (λ bytes. items-tell is))
 
-    section-tells : (ns : Option (List ℕ)) (a : ℕ) (subs : SectionSubscripts) (right : Term) → HavePlaces n (section_trail ns line a subs right s)
-    section-tells ns a subs right =
+    section-tells : (ns : Option (List ℕ)) (beside : Option AnchorText) (a : ℕ) (subs : SectionSubscripts) (right : Term)
+        → HavePlaces n (section_trail ns beside line a subs right s)
+    section-tells ns beside a subs right =
         let reach : List Selection → Elemental → Trail = λ ds x.
-        after_value (space_size (unwrap_or ns (extents ds)) (ds ∷ sections x)) (λ m. reached line s (SectionAssigned (is_some ns) (unwrap_or ns (extents ds)) a ds x)) in
+        after_value (space_size (unwrap_or ns (extents ds)) (ds ∷ sections x)) (λ m. reached line s (SectionAssigned (is_some ns) beside (unwrap_or ns (extents ds)) a ds x)) in
         let then_right : List Selection → Trail = λ ds. elemental_trail line s right ++ after_value (elemental [] s right) (reach ds) in
         both (selections_trail line s subs) (after_value (selections [] s subs) then_right) (selections-tell subs)
         (valued (selections [] s subs) then_right (λ ds.
         both (elemental_trail line s right) (after_value (elemental [] s right) (reach ds)) (elemental-tells right)
         (valued (elemental [] s right) (reach ds) (λ x.
-        valued (space_size (unwrap_or ns (extents ds)) (ds ∷ sections x)) (λ m. reached line s (SectionAssigned (is_some ns) (unwrap_or ns (extents ds)) a ds x))
-        (λ m. one (SectionAssigned (is_some ns) (unwrap_or ns (extents ds)) a ds x))))))
+        valued (space_size (unwrap_or ns (extents ds)) (ds ∷ sections x)) (λ m. reached line s (SectionAssigned (is_some ns) beside (unwrap_or ns (extents ds)) a ds x))
+        (λ m. one (SectionAssigned (is_some ns) beside (unwrap_or ns (extents ds)) a ds x))))))
 
-    forall-mask-tells : (axes : List Sequence) (mask : Option Term) → HavePlaces n (forall_mask_trail line s axes mask)
-    forall-mask-tells axes None = tt
-    forall-mask-tells axes (Some t) = one (ForallMask axes t)
+    forall-mask-tells : (beside : Option AnchorText) (axes : List Sequence) (mask : Option Term) → HavePlaces n (forall_mask_trail line s beside axes mask)
+    forall-mask-tells beside axes None = tt
+    forall-mask-tells beside axes (Some t) = one (ForallMask beside axes t)
 
-  where-tells : (ns : List ℕ) (mask : Mask) (bs : List SectionAssignment) → Tells (where_trail ns mask bs)
-  where-tells ns mask [] s h = tt
-  where-tells ns mask (b ∷ bs) s h =
-      both (section_trail (Some ns) b.line b.array b.subscripts b.right s) (after_run (one_step b.line s (assign_where ns mask b s)) (where_trail ns mask bs))
-      (section-tells b.line s h (Some ns) b.array b.subscripts b.right)
-      (ran (one_step b.line s (assign_where ns mask b s)) (where_trail ns mask bs) (step-keeps b.line s (assign_where ns mask b s) h (assign-where-keeps ns mask b s h))
-      (where-tells ns mask bs))
+  where-tells : (ns : List ℕ) (mask : Mask) (beside : Option AnchorText) (bs : List SectionAssignment) → Tells (where_trail ns mask beside bs)
+  where-tells ns mask beside [] s h = tt
+  where-tells ns mask beside (b ∷ bs) s h =
+      both (section_trail (Some ns) beside b.line b.array b.subscripts b.right s) (after_run (one_step b.line s (assign_where ns mask b s)) (where_trail ns mask beside bs))
+      (section-tells b.line s h (Some ns) beside b.array b.subscripts b.right)
+      (ran (one_step b.line s (assign_where ns mask b s)) (where_trail ns mask beside bs) (step-keeps b.line s (assign_where ns mask b s) h (assign-where-keeps ns mask b s h))
+      (where-tells ns mask beside bs))
 
-  forall-tells : (masked : Bool) (axes : List Sequence) (m : ℕ) (mask : Mask) (bs : List ElementAssignment) → Tells (forall_trail masked axes m mask bs)
-  forall-tells masked axes m mask [] s h = tt
-  forall-tells masked axes m mask (b ∷ bs) s h = (
+  forall-tells : (masked : Bool) (beside : Option AnchorText) (axes : List Sequence) (m : ℕ) (mask : Mask) (bs : List ElementAssignment)
+      → Tells (forall_trail masked beside axes m mask bs)
+  forall-tells masked beside axes m mask [] s h = tt
+  forall-tells masked beside axes m mask (b ∷ bs) s h = (
     h,
-    ran (one_step b.line s (assign_forall axes m mask b s)) (forall_trail masked axes m mask bs)
-        (step-keeps b.line s (assign_forall axes m mask b s) h (assign-forall-keeps axes m mask b s h)) (forall-tells masked axes m mask bs),
+    ran (one_step b.line s (assign_forall axes m mask b s)) (forall_trail masked beside axes m mask bs)
+        (step-keeps b.line s (assign_forall axes m mask b s) h (assign-forall-keeps axes m mask b s h)) (forall-tells masked beside axes m mask bs),
   )
 
   parts-tell : (line : ℕ) (axes : List Sequence) (mask : Option Term) (body : List ElementAssignment) → Tells (forall_parts_trail line axes mask body)
   parts-tell line axes mask body s h =
       let m = product (index_extents axes) in
-      both (forall_mask_trail line s axes mask) (after_value (mask_over s axes m mask) (λ k. forall_trail (is_some mask) axes m k body s)) (forall-mask-tells line s h axes mask)
-      (valued (mask_over s axes m mask) (λ k. forall_trail (is_some mask) axes m k body s) (λ k. forall-tells (is_some mask) axes m k body s h))
+      let beside = forall_anchor body in
+      both (forall_mask_trail line s beside axes mask) (after_value (mask_over s axes m mask) (λ k. forall_trail (is_some mask) beside axes m k body s)) (forall-mask-tells line s h beside axes mask)
+      (valued (mask_over s axes m mask) (λ k. forall_trail (is_some mask) beside axes m k body s) (λ k. forall-tells (is_some mask) beside axes m k body s h))
 
   empty-keeps : (b : Bool) (s : State) (r : Run) → Places s → Places r.state → Places (if b then normal s else r).state
   empty-keeps true s r h g = h
@@ -483,13 +487,14 @@ module _ (n : ℕ) where
 
   where-statement-tells : (line : ℕ) (mask : Term) (body others : List SectionAssignment) → Tells (trail (Where mask body others) line)
   where-statement-tells line mask body others s h =
+      let beside = where_anchor (body ++ others) in
       both (elemental_trail line s mask) _ (elemental-tells line s h mask)
       (valued (elemental [] s mask) _ (λ x.
-      both (over_own_space line s x WhereMask) _ (own-tells line s h x WhereMask)
+      both (over_own_space line s x (WhereMask beside)) _ (own-tells line s h x (WhereMask beside))
       (valued (array_value s x) _ (λ m.
-      both (where_trail m.extents (mask_of m.elements) body s) _ (where-tells m.extents (mask_of m.elements) body s h)
-      (ran (assign_all_where m.extents (mask_of m.elements) body s) (where_trail m.extents (negated_mask m.elements) others)
-      (all-where-keeps m.extents (mask_of m.elements) body s h) (where-tells m.extents (negated_mask m.elements) others))))))
+      both (where_trail m.extents (mask_of m.elements) beside body s) _ (where-tells m.extents (mask_of m.elements) beside body s h)
+      (ran (assign_all_where m.extents (mask_of m.elements) body s) (where_trail m.extents (negated_mask m.elements) beside others)
+      (all-where-keeps m.extents (mask_of m.elements) body s h) (where-tells m.extents (negated_mask m.elements) beside others))))))
 
   forall-statement-tells : (line : ℕ) (controls : List Control) (mask : Option Term) (body : List ElementAssignment) → Tells (trail (Forall controls mask body) line)
   forall-statement-tells line controls mask body s h =
@@ -508,7 +513,7 @@ module _ (n : ℕ) where
     tells (AssignElement a ts right) line s h =
         both (values_trail line s ts) (after_value (values [] s ts >>= place_in s a) (λ k. value_trail line s right)) (values-tell line s h ts)
         (valued (values [] s ts >>= place_in s a) (λ k. value_trail line s right) (λ k. value-tells line s h right))
-    tells (AssignSection a subs right) line s h = section-tells line s h None a subs right
+    tells (AssignSection a subs right) line s h = section-tells line s h None None a subs right
     tells (If arms other) line s h = arms-tell arms (block_trail other) (block-tells other) s h
     tells (Do mark loop body) line s h =
         let turns : Sequence → State → Trail = λ p. iterate_trail p.count loop.index p.first p.step (run_block body) (block_trail body) in

@@ -8,6 +8,7 @@ use Rattle.op_tables.specs.declared.op.Op.{Op}
 use Rattle.op_tables.specs.declared.op.Op.TheVariants as op
 use Rattle.op_tables.specs.Operators.{wrapped, operator_value, value_of, is_zero}
 use Rattle.nest_syntax.specs.NestKinds.{Kind}
+use Rattle.nest_syntax.specs.LinearOperators.{is_linear_operator}
 use Rattle.array_meaning.specs.Terms.{Term, Number, Scalar, Index, Element, Section, Apply, Reduce, Terms, NoTerm, More}
 use Rattle.array_meaning.specs.Statements.{Loop, Nest, Block, Done, Then, Statement, AssignScalar, AssignElement, AssignSection, If, Do, Where, Forall, Print, Stop, Exit, Cycle, Continue, Redistribute, Mark, Unmarked, Arms, NoArm, Arm}
 use Rattle.array_meaning.specs.Faults.{Cause, ◌>>=◌, fails, with_more}
@@ -21,7 +22,7 @@ use Rattle.array_meaning.specs.Iterations.{values_of, turn_value, nest_axes, nes
 use Rattle.nest_items.proofs.IndexFits.{zero_fits, set_fits, indices_fit}
 use Rattle.nest_items.specs.Settled.{without}
 use Rattle.nest_items.specs.Standing.{IsInner, EachFixed, BlockStands, StatementStands, ArmsStand, TightStands, NestStands}
-use Rattle.nest_items.specs.NestForm.{is_linear_operator, IsExact, AreExact, IsKeptLoop, BlockKeeps, StatementKeeps, ArmsKeep, LoopsKeep, IsNest}
+use Rattle.nest_items.specs.NestForm.{IsExact, AreExact, IsKeptLoop, BlockKeeps, StatementKeeps, ArmsKeep, LoopsKeep, IsNest}
 use Rattle.nest_syntax.specs.ClosedTerms.{with_closed, closed_value, closed_values}
 
 -- ---- exact expressions

@@ -2,27 +2,17 @@
 -- What may stand in a nest by its form alone (HPF 2.0, 5.1): as `Standing`, without a state.
 use Rattle.std.specs.Prelude.{◌≡◌, ℕ, List, [], ◌∷◌, ℤ, Bool, true, false, ◌&&◌, Some, None, FitsSigned}
 use Rattle.std.specs.Int.{w64}
-use Rattle.op_tables.specs.declared.op.Op.{Op}
-use Rattle.op_tables.specs.declared.op.Op.TheVariants as op
 use Rattle.op_tables.specs.Operators.{is_zero}
 use Rattle.nest_syntax.specs.NestKinds.{Kind, has_copies}
 use Rattle.array_meaning.specs.Terms.{Term, Number, Scalar, Index, Element, Apply, Reduce, Terms, NoTerm, More}
 use Rattle.array_meaning.specs.Statements.{Loop, Nest, Block, Done, Then, Statement, AssignScalar, AssignElement, If, Do, Continue, Mark, Unmarked, Arms, NoArm, Arm}
 use Rattle.nest_syntax.specs.ClosedTerms.{closed_value}
+use Rattle.nest_syntax.specs.LinearOperators.{is_linear_operator}
 use Rattle.nest_items.specs.Naming.{IsNaming}
 use Rattle.nest_items.specs.Standing.{IsFixedTerm, AreFixedTerms, Stands, RightKind, has_no_loop, have_no_loop}
 use Rattle.nest_items.specs.Settled.{without}
 
--- the operators of subscripts and bounds, none of which has a fault
-abbrev pub is_linear_operator : Op → Bool
-is_linear_operator op.Neg = true
-is_linear_operator op.Plus = true
-is_linear_operator op.Add = true
-is_linear_operator op.Sub = true
-is_linear_operator op.Mul = true
-is_linear_operator o = false
-
--- an expression of numbers and scalars by these, so that it has a value of 64 bits in any state whose scalars have such
+-- an expression of numbers and scalars by linear operators, so that it has a value of 64 bits in any state whose scalars have such
 abbrev mutual
   pub IsExact : Term → Type 0
   IsExact (Number v) = FitsSigned w64 v

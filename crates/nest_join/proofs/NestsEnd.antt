@@ -84,14 +84,14 @@ module _ {I : Type 0} (meaning : I → Instr Fault) (code : List I) (is_quiet : 
   abbrev After : Storage → Type 0
   After = PlacedAfter meaning code is_quiet joined line printed c.pc (c.pc + length (code_of w c s body ok)) texts c.stored c.row (count_body coded) c.slot w.place w.is_row w.is_index
       w.kinds start c.finals (slots_after counting coded c.slot entry) entry
-      (rows_after texts counting (iterations_at w.over) (nest_layout w.table w.over) c.stored c.finals coded c.slot entry d) d
+      (rows_after texts counting (iterations_at w.over) (nest_layout w.table w.over w.beside) c.stored c.finals coded c.slot entry d) d
 
   abbrev MachineEnds : Type 0
   MachineEnds = (NoneKept act copies n many × ((m : Storage) → PartedAgrees w.kinds c.row (kept act copies n) many n start m (parted act copies n many) → After m))
       ⊎ ((i : ℕ) × (j : ℕ) × (f : Fault) × IsLeastKept act copies n many i j f × EndsFaulted meaning code is_quiet joined line printed c.pc entry d f)
 
   machine-ends : MachineEnds
-  machine-ends = nest-runs meaning code is_quiet joined line printed texts counting (is-counting c.line) (iterations_at w.over) (nest_layout w.table w.over) c.stored c.row
+  machine-ends = nest-runs meaning code is_quiet joined line printed texts counting (is-counting c.line) (iterations_at w.over) (nest_layout w.table w.over w.beside) c.stored c.row
       (copied w.kinds (one w.kinds)) (action_at w s) (condition_at w s) coded c.slot c.pc n entry d w.place w.is_row w.is_index c.alike c.finals w.kinds start
       h.has h.room (takes w c.line c.slot entry s h.holds h.outside w.is_index [] body ok (λ k e. e)) h.outside (texts-mean w c.slot entry s h.holds) h.fit h.one_place h.memory
       h.empty h.none_done h.apart h.few h.itself

@@ -6,6 +6,7 @@ use Rattle.array_meaning.specs.Terms.{Term, Terms}
 use Rattle.array_meaning.specs.Statements.{Nest}
 use Rattle.array_meaning.specs.Iterations.{nest_indices}
 use Rattle.node_code.specs.Forms.{Sub}
+use Rattle.node_code.specs.Anchors.{FlatAnchor}
 use Rattle.code_meaning.specs.Instructions.{ArrayTable}
 use Rattle.lowered_expressions.specs.WellFormed.{IsIndexed, AreSubscripts}
 use Rattle.statement_trail.specs.NestParts.{index_in}
@@ -16,7 +17,7 @@ use Rattle.nest_syntax.specs.Assigning.{Assigning, ToScalar, ToElement}
 -- How the names of a program stand on the machine for one of its nests. There are so many names, and each has a slot of its number. `kinds` says
 -- what each is to the nest; `is_row` which rows the nest's storage has, and `place` where among the machine's rows such a row lies; `marks` in
 -- which row the marks of a scalar are, if it has some; `is_index` which scalars are indices of the nest or of loops in it; `over` the values of
--- the nest's indices; and `copied_in` the scalars whose copies an expression reads
+-- the nest's indices, and `beside` what its copies lie beside; and `copied_in` the scalars whose copies an expression reads
 pub record NestNames : Type 0 where
   pub nest : Nest
   pub count : ℕ
@@ -27,6 +28,7 @@ pub record NestNames : Type 0 where
   pub marks : ℕ → Option ℕ
   pub is_index : ℕ → Bool
   pub over : List Sub
+  pub beside : Option FlatAnchor
   pub copied_in : Term → List ℕ
 
 module _ (w : NestNames) where

@@ -47,7 +47,7 @@ module _ (w : NestNames) (c : NestCode) (s : State) (body : Block) (ok : IsCoded
   machine_body = body_of (coded w s [] body ok)
 
   abbrev pub code_of : List (Instr Fault)
-  code_of = nest_code (texts_of w) (counting_at c.line) (iterations_at w.over) (nest_layout w.table w.over) c.stored c.alike c.finals machine_body c.slot c.pc
+  code_of = nest_code (texts_of w) (counting_at c.line) (iterations_at w.over) (nest_layout w.table w.over w.beside) c.stored c.alike c.finals machine_body c.slot c.pc
 
   -- how many acts each iteration has
   abbrev pub acts_of : List ℤ → ℕ
@@ -62,10 +62,10 @@ pub record IsBegun {I : Type 0} (meaning : I → Instr Fault) (code : List I) (i
   pub has : HasAt meaning code is_quiet c.pc (code_of w c s body ok)
   pub room : c.slot + body_slots (machine_body w c s body ok) ≤ length entry
   pub outside : (x : ℕ) → c.slot ≤ x → w.is_index x ≡ false
-  pub fit : PlacedTexts (texts_of w) (iterations_at w.over) (nest_layout w.table w.over) c.stored c.row (count_body (machine_body w c s body ok)) w.place w.is_row w.is_index
+  pub fit : PlacedTexts (texts_of w) (iterations_at w.over) (nest_layout w.table w.over w.beside) c.stored c.row (count_body (machine_body w c s body ok)) w.place w.is_row w.is_index
       (copies w.kinds w.nest s start) (iteration_count w.nest s) c.slot entry
   pub one_place : IsPlace w.place w.is_row
-  pub memory : IsPlacedMemory (nest_layout w.table w.over) entry w.place w.is_row w.kinds (iteration_count w.nest s) start
+  pub memory : IsPlacedMemory (nest_layout w.table w.over w.beside) entry w.place w.is_row w.kinds (iteration_count w.nest s) start
       (nest_entries c.finals c.stored (count_body (machine_body w c s body ok))) d
   pub empty : d.kept ≡ None
   pub none_done : d.parts ≡ 0
@@ -87,7 +87,7 @@ module _ {I : Type 0} (meaning : I → Instr Fault) (code : List I) (is_quiet : 
     pub after : PlacedAfter meaning code is_quiet joined line printed c.pc (c.pc + length (code_of w c s body ok)) (texts_of w) c.stored c.row
         (count_body (machine_body w c s body ok)) c.slot w.place w.is_row w.is_index w.kinds start c.finals
         (slots_after (counting_at c.line) (machine_body w c s body ok) c.slot entry) entry
-        (rows_after (texts_of w) (counting_at c.line) (iterations_at w.over) (nest_layout w.table w.over) c.stored c.finals (machine_body w c s body ok) c.slot entry d) d storage
+        (rows_after (texts_of w) (counting_at c.line) (iterations_at w.over) (nest_layout w.table w.over w.beside) c.stored c.finals (machine_body w c s body ok) c.slot entry d) d storage
 
   -- both end with one fault, and with what was printed before
   pub record FaultsAsMeant : Type 0 where

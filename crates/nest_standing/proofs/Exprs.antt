@@ -28,7 +28,8 @@ use Rattle.well_formed.proofs.Expressions.{either}
 use Rattle.nest_items.specs.Naming.{IsNaming}
 use Rattle.nest_items.specs.Standing.{IsFixed, IsFixedTerm, AreFixedTerms, MayStand, Stands, AllStand}
 use Rattle.nest_items.specs.Paths.{IsReadable, AreReadable}
-use Rattle.nest_items.specs.NestForm.{is_linear_operator, IsExact, AreExact, IsPlain, ArePlain}
+use Rattle.nest_syntax.specs.LinearOperators.{is_linear_operator}
+use Rattle.nest_items.specs.NestForm.{IsExact, AreExact, IsPlain, ArePlain}
 use Rattle.nest_standing.specs.Named.{Declared, AreDeclared, Names, is_array_in}
 use Rattle.nest_standing.proofs.Ruled.{Tied, IsFree}
 

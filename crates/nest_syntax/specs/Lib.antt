@@ -4,6 +4,7 @@ pub mod ClosedTerms
 pub mod NestTerms
 pub mod Asked
 pub mod Finals
+pub mod LinearOperators
 pub use Rattle.array_meaning.specs.Terms
 pub use Rattle.array_meaning.specs.Statements
 pub use Rattle.array_meaning.specs.State

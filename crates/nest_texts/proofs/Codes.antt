@@ -13,6 +13,7 @@ use Rattle.machine_steps.specs.SameLayouts.{is_same_layout}
 use Rattle.node_code.specs.Flat.{Flat, Int, Slot, Operated, NoFlat, AndFlat}
 use Rattle.code_meaning.specs.Flat.{slot, slots_value}
 use Rattle.node_code.specs.Forms.{Sub}
+use Rattle.node_code.specs.Anchors.{FlatAnchor}
 use Rattle.code_meaning.specs.Parallel.{at_line}
 use Rattle.code_meaning.specs.NestStatements.{iterations_at}
 use Rattle.code_meaning.specs.Instructions.{ArrayTable, set_result, go_if, meaning_of}
@@ -87,24 +88,24 @@ module _ (table : ArrayTable) (line : ℕ) where
   finals-mean (Folds y r x ∷ fs) = λ j. meaning_of table (FoldCopy r y x) ∷ finals-mean fs j
   finals-mean (Lasts r q x ∷ fs) = λ j. meaning_of table (LastCopy r q x) ∷ finals-mean fs j
 
-  module _ (over : List Sub) where
+  module _ (over : List Sub) (beside : Option FlatAnchor) where
     abbrev layout : List Layout → List ℤ → Layout
-    layout = nest_layout table over
+    layout = nest_layout table over beside
 
     entries-append : (xs ys : List Entry) → entries_code {F = Fault} layout (xs ++ ys) ≡ entries_code layout xs ++ entries_code layout ys
     entries-append [] ys = refl
     entries-append (e ∷ xs) ys = ap (λ cs. machine.MakeCopy e.row layout e.start ∷ cs) (entries-append xs ys)
 
-    makes-mean : (fs : List Final) → means (finals_makes line over fs) ≡ entries_code layout (finals_entries fs)
+    makes-mean : (fs : List Final) → means (finals_makes line over beside fs) ≡ entries_code layout (finals_entries fs)
     makes-mean [] = refl
-    makes-mean (Folds y r x ∷ fs) = λ j. meaning_of table (MakeCopies r over (Int (unit y))) ∷ makes-mean fs j
-    makes-mean (Lasts r q x ∷ fs) = λ j. meaning_of table (MakeCopies r over (Slot x)) ∷ meaning_of table (MakeCopies q over (Int (pos 0))) ∷ makes-mean fs j
+    makes-mean (Folds y r x ∷ fs) = λ j. meaning_of table (MakeCopies r over (Int (unit y)) beside) ∷ makes-mean fs j
+    makes-mean (Lasts r q x ∷ fs) = λ j. meaning_of table (MakeCopies r over (Slot x) beside) ∷ meaning_of table (MakeCopies q over (Int (pos 0)) beside) ∷ makes-mean fs j
 
-    conditions-mean : (stored count : ℕ) → means (conditions_makes line over stored count) ≡ entries_code layout (conditions_entries stored count)
+    conditions-mean : (stored count : ℕ) → means (conditions_makes line over beside stored count) ≡ entries_code layout (conditions_entries stored count)
     conditions-mean stored zero = refl
     conditions-mean stored (suc count) =
-        map-append (meaning_of table) (conditions_makes line over stored count) (MakeCopies (stored + count) over (Int (pos 0)) ∷ [])
-        ∙ (λ j. conditions-mean stored count j ++ meaning_of table (MakeCopies (stored + count) over (Int (pos 0))) ∷ [])
+        map-append (meaning_of table) (conditions_makes line over beside stored count) (MakeCopies (stored + count) over (Int (pos 0)) beside ∷ [])
+        ∙ (λ j. conditions-mean stored count j ++ meaning_of table (MakeCopies (stored + count) over (Int (pos 0)) beside) ∷ [])
         ∙ sym (entries-append (conditions_entries stored count) (record { row = stored + count; start = λ s. pos 0 } ∷ []))
 
     -- ---- bodies
@@ -114,13 +115,13 @@ module _ (table : ArrayTable) (line : ℕ) where
       texts = nest_texts table.shapes over text_of test_of
 
       abbrev Is : NestBody A C → Option ℕ → (k b pc : ℕ) → List Instruction
-      Is = body_instructions line over text_of test_of stored
+      Is = body_instructions line over beside text_of test_of stored
 
       abbrev ArmsIs : NestArms A C → Option ℕ → List ℕ → (k b pc : ℕ) → List Instruction
-      ArmsIs = arms_instructions line over text_of test_of stored
+      ArmsIs = arms_instructions line over beside text_of test_of stored
 
       abbrev TextIs : Option ℕ → A → List Instruction
-      TextIs = text_instructions line over text_of test_of stored
+      TextIs = text_instructions line over beside text_of test_of stored
 
       abbrev Code : NestBody A C → Option ℕ → (k b pc : ℕ) → List (Instr Fault)
       Code body = body_code texts (counting_at line) (iterations_at over) layout stored (body_of body)
@@ -128,18 +129,18 @@ module _ (table : ArrayTable) (line : ℕ) where
       abbrev ArmsCode : NestArms A C → Option ℕ → List ℕ → (k b pc : ℕ) → List (Instr Fault)
       ArmsCode arms = arms_code texts (counting_at line) (iterations_at over) layout stored (arms_of arms)
 
-      marks-mean : (guard o : Option ℕ) → means (mark_instructions line over text_of test_of stored guard o) ≡ mark_code texts (iterations_at over) stored guard o
+      marks-mean : (guard o : Option ℕ) → means (mark_instructions line over beside text_of test_of stored guard o) ≡ mark_code texts (iterations_at over) stored guard o
       marks-mean guard None = refl
-      marks-mean guard (Some r) = λ j. setting-mark table.shapes over stored (guard_asked guard) r j ∷ []
+      marks-mean guard (Some r) = λ j. setting-mark table.shapes over beside stored (guard_asked guard) r j ∷ []
 
       text-means : (guard : Option ℕ) (a : A) → means (TextIs guard a) ≡ text_code texts (iterations_at over) stored guard a
-      text-means guard a = λ j. assigning-means table.shapes over stored (guard_asked guard) (text_of a) j ∷ marks-mean guard (text_of a).mark j
+      text-means guard a = λ j. assigning-means table.shapes over beside stored (guard_asked guard) (text_of a) j ∷ marks-mean guard (text_of a).mark j
 
       test-means : (guard : Option ℕ) (earlier : List ℕ) (test : Option C) (k : ℕ)
-          → meaning_of table (test_instruction line over text_of test_of stored (tested_asked guard earlier) test (stored + k))
+          → meaning_of table (test_instruction line over beside text_of test_of stored (tested_asked guard earlier) test (stored + k))
           ≡ Par (test_tuples texts (iterations_at over) stored guard earlier test) (copy_spot (stored + k))
-      test-means guard earlier None k = setting-else table.shapes over stored (tested_asked guard earlier) (stored + k)
-      test-means guard earlier (Some c) k = testing-means table.shapes over stored (tested_asked guard earlier) (test_of c) (stored + k)
+      test-means guard earlier None k = setting-else table.shapes over beside stored (tested_asked guard earlier) (stored + k)
+      test-means guard earlier (Some c) k = testing-means table.shapes over beside stored (tested_asked guard earlier) (test_of c) (stored + k)
 
       mutual
         body-means : (body : NestBody A C) → AreSafe body → (guard : Option ℕ) (k b pc : ℕ) → means (Is body guard k b pc) ≡ Code body guard k b pc
@@ -181,16 +182,16 @@ module _ (table : ArrayTable) (line : ℕ) where
             (ArmsCode others guard (k ∷ earlier) (k + 1 + count_body (body_of body)) b (pc + 2 + length d)) h
             (arms-mean others safe.1 guard (k ∷ earlier) (k + 1 + count_nest body) b (pc + 2 + length c)
             ∙ (λ j. ArmsCode others guard (k ∷ earlier) (k + 1 + counts-same body j) b (pc + 2 + l j))) in
-            λ j. meaning_of table (MakeCopies (stored + k) over (Int (pos 0))) ∷ test-means guard earlier test k j ∷ rest j
+            λ j. meaning_of table (MakeCopies (stored + k) over (Int (pos 0)) beside) ∷ test-means guard earlier test k j ∷ rest j
 
       pub nest-means : (finals : List Final) (body : NestBody A C) (b pc : ℕ) → AreSafe body
-          → means (nest_instructions line over text_of test_of stored finals body b pc)
+          → means (nest_instructions line over beside text_of test_of stored finals body b pc)
           ≡ nest_code texts (counting_at line) (iterations_at over) layout stored is_same_layout finals (body_of body) b pc
       nest-means finals body b pc safe =
-          let c = finals_makes line over finals ++ conditions_makes line over stored (count_nest body) in
+          let c = finals_makes line over beside finals ++ conditions_makes line over beside stored (count_nest body) in
           let d = entries_code {F = Fault} layout (nest_entries finals stored (count_body (body_of body))) in
           let h : means c ≡ d =
-          map-append (meaning_of table) (finals_makes line over finals) (conditions_makes line over stored (count_nest body))
+          map-append (meaning_of table) (finals_makes line over beside finals) (conditions_makes line over beside stored (count_nest body))
           ∙ (λ j. makes-mean finals j ++ (conditions-mean stored (count_nest body) ∙ (λ k. entries_code layout (conditions_entries stored (counts-same body k)))) j)
           ∙ sym (entries-append (finals_entries finals) (conditions_entries stored (count_body (body_of body)))) in
           let l : length c ≡ length d = same-length c d h in

@@ -11,6 +11,7 @@ use Rattle.array_meaning.specs.State.{if_in_bounds}
 use Rattle.machine_steps.specs.Instr as machine
 use Rattle.machine_steps.specs.Instr.{Outcome, Instr, Tuples, Nothing, Breaks, Par}
 use Rattle.node_code.specs.Forms.{Sub}
+use Rattle.node_code.specs.Anchors.{FlatAnchor}
 use Rattle.code_meaning.specs.Parallel.{as_asked, at_line, made_outcome, outcome_if, outcome_of}
 use Rattle.node_code.specs.NestStatements.{NestStatement}
 use Rattle.code_meaning.specs.NestStatements.{are_asked, when_spots, form_reads, form_value, iterations_at, nest_tuples, nest_spot, nest_place}
@@ -84,12 +85,12 @@ truth-asked : (line : ℕ) (b : Bool) (r : Result ℤ Cause)
 truth-asked line true r = truth-made line r
 truth-asked line false r = refl
 
-module _ (shapes : List (List Dim)) (over : List Sub) (stored : ℕ) (ws : List Asked) where
+module _ (shapes : List (List Dim)) (over : List Sub) (beside : Option FlatAnchor) (stored : ℕ) (ws : List Asked) where
   -- what a statement reads, and whether it is asked for
   abbrev Means : NestStatement → (reads : List ℤ → ℕ → List (Option Spot)) (outcome : List ℤ → ℕ → List ℤ → Outcome Fault) (left : List ℤ → ℕ → Option Spot) → Type 0
   Means p reads outcome left = machine.Par (nest_tuples shapes p) (nest_spot shapes p) ≡ machine.Par (tuples_where (iterations_at over) stored ws reads outcome) left
 
-  pub assigning-means : (p : NestText) → Means (assigning over (whens_of stored ws) p) (form_reads shapes over p.copies p.right) (text_outcome shapes over p) (left_spot shapes over p.left)
+  pub assigning-means : (p : NestText) → Means (assigning over beside (whens_of stored ws) p) (form_reads shapes over p.copies p.right) (text_outcome shapes over p) (left_spot shapes over p.left)
   assigning-means p = λ j. machine.Par
       (record {
         count = iterations_at over;
@@ -98,14 +99,14 @@ module _ (shapes : List (List Dim)) (over : List Sub) (stored : ℕ) (ws : List 
       })
       (left_spot shapes over p.left)
     where
-      same : (slots : List ℤ) (t : ℕ) (values : List ℤ) → (nest_tuples shapes (assigning over (whens_of stored ws) p)).outcome slots t values
+      same : (slots : List ℤ) (t : ℕ) (values : List ℤ) → (nest_tuples shapes (assigning over beside (whens_of stored ws) p)).outcome slots t values
           ≡ outcome_where (nest.are_asked ws values) (text_outcome shapes over p slots t (after_asked ws values))
       same slots t values =
           where-asked (are_asked (whens_of stored ws) values) (at_line p.line (if_in_bounds (nest_place shapes over p.left slots t)
           >>= (λ k. form_value shapes over p.copies p.right slots t (drop (length (whens_of stored ws)) values))))
           ∙ (λ i. outcome_where (asked-same stored ws values i) (text_outcome shapes over p slots t (after-same stored ws values i)))
 
-  pub testing-means : (p : NestTest) (copy : ℕ) → Means (testing over (whens_of stored ws) p copy) (form_reads shapes over p.copies p.form) (test_outcome shapes over p) (copy_spot copy)
+  pub testing-means : (p : NestTest) (copy : ℕ) → Means (testing over beside (whens_of stored ws) p copy) (form_reads shapes over p.copies p.form) (test_outcome shapes over p) (copy_spot copy)
   testing-means p copy = λ j. machine.Par
       (record {
         count = iterations_at over;
@@ -114,7 +115,7 @@ module _ (shapes : List (List Dim)) (over : List Sub) (stored : ℕ) (ws : List 
       })
       (copy_spot copy)
     where
-      same : (slots : List ℤ) (t : ℕ) (values : List ℤ) → (nest_tuples shapes (testing over (whens_of stored ws) p copy)).outcome slots t values
+      same : (slots : List ℤ) (t : ℕ) (values : List ℤ) → (nest_tuples shapes (testing over beside (whens_of stored ws) p copy)).outcome slots t values
           ≡ outcome_where (nest.are_asked ws values) (test_outcome shapes over p slots t (after_asked ws values))
       same slots t values =
           truth-asked p.line (are_asked (whens_of stored ws) values) (form_value shapes over p.copies p.form slots t (drop (length (whens_of stored ws)) values))
@@ -136,8 +137,8 @@ module _ (shapes : List (List Dim)) (over : List Sub) (stored : ℕ) (ws : List 
       })
       (left j)
 
-  pub setting-else : (copy : ℕ) → Means (setting_else over (whens_of stored ws) copy) (λ slots t. []) (λ slots t values. machine.Value (pos 1)) (copy_spot copy)
-  setting-else copy = setting (setting_else over (whens_of stored ws) copy) copy (λ slots t. refl) (λ slots t values. refl) refl refl
+  pub setting-else : (copy : ℕ) → Means (setting_else over beside (whens_of stored ws) copy) (λ slots t. []) (λ slots t values. machine.Value (pos 1)) (copy_spot copy)
+  setting-else copy = setting (setting_else over beside (whens_of stored ws) copy) copy (λ slots t. refl) (λ slots t values. refl) refl refl
 
-  pub setting-mark : (copy : ℕ) → Means (setting_mark over (whens_of stored ws) copy) (λ slots t. []) (λ slots t values. machine.Value (pos 1)) (copy_spot copy)
-  setting-mark copy = setting (setting_mark over (whens_of stored ws) copy) copy (λ slots t. refl) (λ slots t values. refl) refl refl
+  pub setting-mark : (copy : ℕ) → Means (setting_mark over beside (whens_of stored ws) copy) (λ slots t. []) (λ slots t values. machine.Value (pos 1)) (copy_spot copy)
+  setting-mark copy = setting (setting_mark over beside (whens_of stored ws) copy) copy (λ slots t. refl) (λ slots t values. refl) refl refl

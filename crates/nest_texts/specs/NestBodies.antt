@@ -1,19 +1,21 @@
 -- Of a promise.
 -- The bodies of nests as the machine's, and how their copies lie.
-use Rattle.std.specs.Prelude.{◌≡◌, List, [], ℤ, None, Ok}
+use Rattle.std.specs.Prelude.{◌≡◌, List, [], ℤ, Option, Ok}
 use Rattle.machine_steps.specs.Layout.{Layout}
 use Rattle.node_code.specs.Flat.{Flat}
 use Rattle.code_meaning.specs.Flat.{flat_value, slots_value}
 use Rattle.node_code.specs.Forms.{Sub}
+use Rattle.node_code.specs.Anchors.{FlatAnchor}
+use Rattle.code_meaning.specs.Anchors.{anchor_in}
 use Rattle.code_meaning.specs.NestStatements.{copies_extents}
 use Rattle.code_meaning.specs.Instructions.{ArrayTable}
 use Rattle.program_code.specs.NestInstructions.{FlatBounds, NestBody, NoText, AndText, AndIf, AndLoop, NestArms, NoArm, AndArm}
 use Rattle.nest_machine.specs.Body as nest
 use Rattle.nest_machine.specs.Body.{Bounds, Body, Arms}
 
--- how copies of a nest lie: with a value for each iteration
-abbrev pub nest_layout : ArrayTable → List Sub → List Layout → List ℤ → Layout
-nest_layout table over layouts slots = table.copies layouts None (copies_extents over slots)
+-- how copies of a nest lie: with a value for each iteration, beside what is assigned there
+abbrev pub nest_layout : ArrayTable → List Sub → Option FlatAnchor → List Layout → List ℤ → Layout
+nest_layout table over beside layouts slots = table.copies layouts (anchor_in slots over beside) (copies_extents over slots)
 
 -- an expression over the slots that can't fault
 abbrev pub CantFault : Flat → Type 0

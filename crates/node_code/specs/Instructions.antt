@@ -1,10 +1,11 @@
 -- Of the claim.
 -- The instructions of node code.
-use Rattle.std.specs.Prelude.{ℕ, List}
+use Rattle.std.specs.Prelude.{ℕ, List, Option}
 use Rattle.op_tables.specs.declared.join.Join.{Join}
 use Rattle.op_tables.specs.declared.reductions.Reduction.{Reduction}
 use Rattle.resolved_program.specs.Statements.{Mark}
 use Rattle.node_code.specs.Flat.{Flat, Flats}
+use Rattle.node_code.specs.Anchors.{FlatAnchor}
 use Rattle.node_code.specs.Forms.{Sub}
 use Rattle.node_code.specs.Parallel.{Assignment, Evaluation}
 use Rattle.node_code.specs.NestStatements.{NestStatement}
@@ -50,9 +51,10 @@ pub data Instruction : Type 0 where
   -- an assignment at the tuples of its space, and one of a FORALL
   Par : Assignment → Instruction
   ParForall : Assignment → Instruction
-  -- a statement of a nest of INDEPENDENT loops, and copies of a nest, by their row, one for each iteration, with their value at the start
+  -- a statement of a nest of INDEPENDENT loops, and copies of a nest, by their row, one for each iteration, with their value at the start and
+  -- what they lie beside
   ParNest : NestStatement → Instruction
-  MakeCopies : (copy : ℕ) → (over : List Sub) → (start : Flat) → Instruction
+  MakeCopies : (copy : ℕ) → (over : List Sub) → (start : Flat) → (beside : Option FlatAnchor) → Instruction
   -- a copy, by its row, of the extents of an array expression, with 0 everywhere, and its values into the copy; also those of a FORALL's
   -- mask
   MakeCopy : (copy : ℕ) → Evaluation → Instruction

@@ -1,5 +1,6 @@
 //! Parallel statements of nests of INDEPENDENT loops (HPF 2.0, 5.1).
 
+use crate::anchor::FlatAnchor;
 use crate::form::{ArrayForm, Sub};
 use crate::parallel::When;
 
@@ -40,4 +41,6 @@ pub struct NestStatement {
     pub left: NestLeft,
     pub right: ArrayForm,
     pub role: NestRole,
+    /// What the copies of the nest lie beside.
+    pub beside: Option<FlatAnchor>,
 }

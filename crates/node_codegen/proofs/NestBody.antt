@@ -12,7 +12,7 @@ use Rattle.program_code.specs.NestInstructions as forms
 use Rattle.program_code.specs.NestInstructions.{test_instruction, count_nest}
 use Rattle.program_code.specs.NestCode.{Lined, PlainBody, plain_else}
 use Rattle.node_codegen.specs.declared.nest_names.NestNames.{NestNames}
-use Rattle.node_codegen.specs.NestNames.{arms_by, body_by, over_by, test_by, text_by}
+use Rattle.node_codegen.specs.NestNames.{arms_by, beside_by, body_by, over_by, test_by, text_by}
 use Rattle.node_codegen.specs.NestTexts.{IsArmCode, is_bare}
 
 -- code that is made, before what stands after it
@@ -29,19 +29,19 @@ put_after made new part whole before after more so_far next =
 
 -- an arm, by its condition's instruction and the code of its body
 pub arm_is : (w : NestNames) (test : Option (Lined Term)) (body : PlainBody) (guard : Option ℕ) (earlier : List ℕ) (k b pc copy : ℕ) (t : Instruction) (c v : List Instruction) →
-    copy ≡ w.stored + k → t ≡ test_instruction w.line (over_by w) (text_by w) (test_by w) w.stored (tested_asked guard earlier) test copy →
-    c ≡ body_by w body (Some k) (k + 1) b (pc + 2) → v ≡ MakeCopies copy (over_by w) (Int (pos 0)) ∷ t ∷ c → IsArmCode w test body guard earlier k b pc v
+    copy ≡ w.stored + k → t ≡ test_instruction w.line (over_by w) (beside_by w) (text_by w) (test_by w) w.stored (tested_asked guard earlier) test copy →
+    c ≡ body_by w body (Some k) (k + 1) b (pc + 2) → v ≡ MakeCopies copy (over_by w) (Int (pos 0)) (beside_by w) ∷ t ∷ c → IsArmCode w test body guard earlier k b pc v
 arm_is w test body guard earlier k b pc copy t c v row tests inside whole = λ others.
     let rest = arms_by w others guard (k ∷ earlier) (k + 1 + count_nest body) b in
     let own = body_by w body (Some k) (k + 1) b (pc + 2) in
     let long : length v ≡ suc (suc (length own)) = ap length whole ∙ ap (λ l. suc (suc (length l))) inside in
     let place : pc + 2 + length own ≡ pc + length v = omega (arith, long) in
-    let made : v ≡ MakeCopies (w.stored + k) (over_by w) (Int (pos 0))
-    ∷ test_instruction w.line (over_by w) (text_by w) (test_by w) w.stored (tested_asked guard earlier) test (w.stored + k) ∷ own =
-    whole ∙ (λ i. MakeCopies (row i) (over_by w) (Int (pos 0))
-    ∷ (tests ∙ ap (test_instruction w.line (over_by w) (text_by w) (test_by w) w.stored (tested_asked guard earlier) test) row) i ∷ inside i) in
-    ap (λ p. MakeCopies (w.stored + k) (over_by w) (Int (pos 0))
-    ∷ test_instruction w.line (over_by w) (text_by w) (test_by w) w.stored (tested_asked guard earlier) test (w.stored + k) ∷ (own ++ rest p)) place
+    let made : v ≡ MakeCopies (w.stored + k) (over_by w) (Int (pos 0)) (beside_by w)
+    ∷ test_instruction w.line (over_by w) (beside_by w) (text_by w) (test_by w) w.stored (tested_asked guard earlier) test (w.stored + k) ∷ own =
+    whole ∙ (λ i. MakeCopies (row i) (over_by w) (Int (pos 0)) (beside_by w)
+    ∷ (tests ∙ ap (test_instruction w.line (over_by w) (beside_by w) (text_by w) (test_by w) w.stored (tested_asked guard earlier) test) row) i ∷ inside i) in
+    ap (λ p. MakeCopies (w.stored + k) (over_by w) (Int (pos 0)) (beside_by w)
+    ∷ test_instruction w.line (over_by w) (beside_by w) (text_by w) (test_by w) w.stored (tested_asked guard earlier) test (w.stored + k) ∷ (own ++ rest p)) place
     ∙ ap (λ l. l ++ rest (pc + length v)) (sym made)
 
 -- an ELSE without statements is none

@@ -1,4 +1,5 @@
 pub mod Arms
+pub mod Maskings
 pub mod Moves
 pub mod NestLoops
 pub mod NestScalars

@@ -6,9 +6,11 @@ use Rattle.array_meaning.specs.Statements.{Loop, Nest, Block}
 use Rattle.array_meaning.specs.Iterations.{is_in, nest_indices}
 use Rattle.resolved_program.specs.declared.statements.Nest.{Nest as HeldNest}
 use Rattle.resolved_program.specs.Resolved.{inner_loops}
+use Rattle.node_code.specs.Anchors.{FlatAnchor}
 use Rattle.node_code.specs.Forms.{Sub, SubAlong}
 use Rattle.node_code.specs.NestStatements.{ElementLeft, CopyLeft}
 use Rattle.node_code.specs.Instructions.{Instruction}
+use Rattle.node_code.specs.Texts.{flat_anchor}
 use Rattle.program_code.specs.ExpressionCode.{index_subs, index_form}
 use Rattle.nest_syntax.specs.Assigning.{Assigning, ToScalar, ToElement}
 use Rattle.program_code.specs.NestTexts.{NestText, NestTest}
@@ -16,7 +18,7 @@ use Rattle.program_code.specs.NestInstructions.{arms_instructions, body_instruct
 use Rattle.nest_syntax.specs.NestTerms.{all_indexed, indexed}
 use Rattle.statement_trail.specs.NestParts.{each_once, index_in, of_these, scalars_in}
 use Rattle.program_code.specs.Places.{marks_from, place_of}
-use Rattle.program_code.specs.NestCode.{Lined, PlainBody, PlainArms, along, conditions, scalars, stored}
+use Rattle.program_code.specs.NestCode.{Lined, PlainBody, PlainArms, along, conditions, nest_beside, scalars, stored}
 use Rattle.node_codegen.specs.declared.nest_names.NestNames.{NestNames}
 
 -- the nest whose outermost loop has this body
@@ -37,6 +39,7 @@ pub record AreNamesOf (n line : ℕ) (nest : Nest) (body : Block) (v : ℕ) (w :
   pub marks_are : w.marks ≡ marks_from n (scalars n nest body) (conditions n nest body)
   pub indices_are : w.indices.items ≡ nest_indices nest
   pub over_is : map SubAlong w.over.items ≡ along v nest.loops
+  pub beside_is : option_map flat_anchor w.beside ≡ nest_beside nest body
 
 -- where a name lies, and what a text of the nest is, by these numbers
 module _ (names marks : ℕ) (scalars reduction indices : List ℕ) where
@@ -84,6 +87,9 @@ module _ (w : NestNames) where
   abbrev pub over_by : List Sub
   over_by = map SubAlong w.over.items
 
+  abbrev pub beside_by : Option FlatAnchor
+  beside_by = option_map flat_anchor w.beside
+
   abbrev pub place_by : ℕ → ℕ
   place_by = place_at w.names w.marks w.scalars.items w.reduction.items w.indices.items
 
@@ -105,10 +111,10 @@ module _ (w : NestNames) where
   -- ---- what statements make
 
   abbrev pub texts_by : Option ℕ → Lined Assigning → List Instruction
-  texts_by = text_instructions w.line over_by text_by test_by w.stored
+  texts_by = text_instructions w.line over_by beside_by text_by test_by w.stored
 
   abbrev pub body_by : PlainBody → Option ℕ → (k b pc : ℕ) → List Instruction
-  body_by = body_instructions w.line over_by text_by test_by w.stored
+  body_by = body_instructions w.line over_by beside_by text_by test_by w.stored
 
   abbrev pub arms_by : PlainArms → Option ℕ → List ℕ → (k b pc : ℕ) → List Instruction
-  arms_by = arms_instructions w.line over_by text_by test_by w.stored
+  arms_by = arms_instructions w.line over_by beside_by text_by test_by w.stored

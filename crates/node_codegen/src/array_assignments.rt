@@ -3,16 +3,18 @@
 ghost use Rattle.std.specs.Prelude.{◌≡◌, ◌+◌, [], ◌∷◌, ◌++◌, None, Some, IfOk, OnOk};
 ghost use Rattle.node_code.specs.Instructions.{Limits, Par, Verdict};
 ghost use Rattle.node_code.specs.Texts as text;
-ghost use Rattle.node_code.specs.Texts.{instructions, when};
+ghost use Rattle.node_code.specs.Texts.{instructions};
 ghost use Rattle.resolved_program.specs.Resolved.{subscripts_of, term};
-ghost use Rattle.program_code.specs.ExpressionCode.{first_subs, form_of, or_no_sub, parts_code, subscripts_code, subscripts_slots};
+ghost use Rattle.program_code.specs.ExpressionCode.{form_of, parts_code, subscripts_code, subscripts_slots};
 ghost use Rattle.program_code.specs.StatementCode.{assignment, assignment_code};
+ghost use Rattle.node_codegen.specs.Maskings.{masking};
 
+use anchor_code::copied;
 use expression_code::{
     form_of, joined, own_space, parts_code, plus, subs_of, subscripts_code, subscripts_slots,
 };
 use hpf_base::OutOfMemory;
-use node_code::{Assignment, Instruction, When};
+use node_code::{Assignment, FlatAnchor, Instruction, When};
 use resolved_program::{SectionAssignment, SectionSubscript, Term};
 use std::alloc::Global;
 
@@ -63,14 +65,16 @@ pub(crate) fn add_masked_assignment(
     free: usize,
     mask: &Term,
     branch: When,
+    beside: &Option<FlatAnchor>,
 ) -> Result<(), OutOfMemory>
     ensures { OnOk result (instructions code.new.items ≡ instructions code.old.items
-        ++ assignment_code x.now.line b x.now.array (subscripts_of x.now.subscripts.items) (term x.now.right) (Some (or_no_sub (first_subs (form_of free (term mask.now))), when branch))) }
+        ++ assignment_code x.now.line b x.now.array (subscripts_of x.now.subscripts.items) (term x.now.right)
+        (Some (masking (form_of free (term mask.now)) branch beside.now))) }
 {
     joined(code, subscripts_code(alloc, x.line, b, &x.subscripts)?)?;
     joined(code, right_code(alloc, x.line, b, &x.subscripts, &x.right)?)?;
-    code.push(Instruction::Limits(masked_assignment(alloc, b, x, free, mask, branch)?))?;
-    code.push(Instruction::Par(masked_assignment(alloc, b, x, free, mask, branch)?))?;
+    code.push(Instruction::Limits(masked_assignment(alloc, b, x, free, mask, branch, beside)?))?;
+    code.push(Instruction::Par(masked_assignment(alloc, b, x, free, mask, branch, beside)?))?;
     code.push(Instruction::Verdict)?;
     Ok(())
 }
@@ -107,6 +111,7 @@ fn assignment(
         over: subs_of(alloc, b, subscripts)?,
         right: form_of(alloc, b1, right)?,
         mask: None,
+        beside: None,
     })
 }
 
@@ -118,9 +123,11 @@ fn masked_assignment(
     free: usize,
     mask: &Term,
     branch: When,
+    beside: &Option<FlatAnchor>,
 ) -> Result<Assignment, OutOfMemory>
     ensures { IfOk result (λ p. text.assignment p
-        ≡ assignment x.now.line b x.now.array (subscripts_of x.now.subscripts.items) (term x.now.right) (Some (or_no_sub (first_subs (form_of free (term mask.now))), when branch))) }
+        ≡ assignment x.now.line b x.now.array (subscripts_of x.now.subscripts.items) (term x.now.right)
+        (Some (masking (form_of free (term mask.now)) branch beside.now))) }
 {
     let b1 = plus(b, subscripts_slots(&x.subscripts)?)?;
     Ok(Assignment {
@@ -130,5 +137,6 @@ fn masked_assignment(
         over: own_space(alloc, free, mask)?,
         right: form_of(alloc, b1, &x.right)?,
         mask: Some(branch),
+        beside: copied(alloc, beside)?,
     })
 }

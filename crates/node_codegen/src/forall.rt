@@ -4,7 +4,7 @@ ghost use Rattle.std.specs.Prelude.{◌≡◌, [], ◌∷◌, ◌++◌, IfOk, On
 ghost use Rattle.array_meaning.specs.Forall.{all_subscripts};
 ghost use Rattle.node_code.specs.Instructions.{ForallLimits};
 ghost use Rattle.node_code.specs.Texts as text;
-ghost use Rattle.node_code.specs.Texts.{instructions, when};
+ghost use Rattle.node_code.specs.Texts.{flat_anchor, instructions, when};
 ghost use Rattle.resolved_program.specs.Resolved.{control, element_assignment, term};
 ghost use Rattle.program_code.specs.ExpressionCode.{index_flat, index_form, subs_of};
 ghost use Rattle.program_code.specs.StatementCode as definition;
@@ -12,9 +12,10 @@ ghost use Rattle.program_code.specs.StatementCode.{forall_assignments_code, fora
 
 use crate::forall_header::{add_header, header_subs};
 use crate::forall_subscripts::all_subscripts;
+use anchor_code::{copied, forall_beside};
 use expression_code::{all_index_flats, index_form, index_subs};
 use hpf_base::OutOfMemory;
-use node_code::{Assignment, Evaluation, Instruction, When};
+use node_code::{Assignment, Evaluation, FlatAnchor, Instruction, When};
 use resolved_program::{Control, ElementAssignment, Term};
 use std::alloc::Global;
 
@@ -30,12 +31,14 @@ pub(crate) fn forall_code(
 ) -> Result<Vec<Instruction>, OutOfMemory>
     ensures { IfOk result (λ v. instructions v.items ≡ forall_code copy line b (map control controls.now) (option_map term mask.now) (map element_assignment body.now)) }
 {
+    let beside = &forall_beside(alloc, body)?;
     let mut code = Vec::new(alloc);
     add_header(alloc, &mut code, line, b, controls)?;
     push_limits(alloc, &mut code, line, b, controls, mask, body)?;
     add_tests(alloc, &mut code, b, controls, body)?;
-    add_mask(alloc, &mut code, copy, line, b, controls, mask)?;
-    add_assignments(alloc, &mut code, b, controls, branch_of(copy, mask), body)?;
+    add_mask(alloc, &mut code, copy, line, b, controls, mask, beside)?;
+    let branch = branch_of(copy, mask);
+    add_assignments(alloc, &mut code, b, controls, branch, beside, body)?;
     Ok(code)
 }
 
@@ -90,20 +93,21 @@ fn add_mask(
     b: usize,
     controls: &[Control],
     mask: &Option<Term>,
+    beside: &Option<FlatAnchor>,
 ) -> Result<(), OutOfMemory>
     ensures { OnOk result (instructions code.new.items
-        ≡ instructions code.old.items ++ forall_mask_code copy line (subs_of b (triplets (map control controls.now))) (option_map term mask.now)) }
+        ≡ instructions code.old.items ++ forall_mask_code copy line (subs_of b (triplets (map control controls.now))) (option_map flat_anchor beside.now) (option_map term mask.now)) }
 {
     match mask {
         None => Ok(()),
         Some(t) => {
             code.push(Instruction::MakeCopy {
                 copy,
-                evaluation: mask_evaluation(alloc, line, b, controls, t)?,
+                evaluation: mask_evaluation(alloc, line, b, controls, t, beside)?,
             })?;
             code.push(Instruction::ParForallCopy {
                 copy,
-                evaluation: mask_evaluation(alloc, line, b, controls, t)?,
+                evaluation: mask_evaluation(alloc, line, b, controls, t, beside)?,
             })?;
             code.push(Instruction::Verdict)?;
             Ok(())
@@ -118,13 +122,20 @@ fn mask_evaluation(
     b: usize,
     controls: &[Control],
     mask: &Term,
+    beside: &Option<FlatAnchor>,
 ) -> Result<Evaluation, OutOfMemory>
-    ensures { IfOk result (λ e. text.evaluation e ≡ record { line = line; form = index_form (term mask.now); over = subs_of b (triplets (map control controls.now)) }) }
+    ensures { IfOk result (λ e. text.evaluation e ≡ record {
+      line = line;
+      form = index_form (term mask.now);
+      over = subs_of b (triplets (map control controls.now));
+      beside = option_map flat_anchor beside.now;
+    }) }
 {
     Ok(Evaluation {
         line,
         over: header_subs(alloc, b, controls)?,
         form: index_form(alloc, mask)?,
+        beside: copied(alloc, beside)?,
     })
 }
 
@@ -145,13 +156,16 @@ fn add_assignments(
     b: usize,
     controls: &[Control],
     branch: Option<When>,
+    beside: &Option<FlatAnchor>,
     body: &[ElementAssignment],
 ) -> Result<(), OutOfMemory>
     ensures { OnOk result (instructions code.new.items ≡ instructions code.old.items
-        ++ forall_assignments_code (subs_of b (triplets (map control controls.now))) (option_map when branch) (map element_assignment body.now)) }
+        ++ forall_assignments_code (subs_of b (triplets (map control controls.now))) (option_map when branch) (option_map flat_anchor beside.now) (map element_assignment body.now)) }
 {
     for x in body {
-        code.push(Instruction::ParForall(forall_assignment(alloc, b, controls, branch, x)?))?;
+        code.push(Instruction::ParForall(forall_assignment(
+            alloc, b, controls, branch, beside, x,
+        )?))?;
         code.push(Instruction::Verdict)?;
     }
     Ok(())
@@ -163,9 +177,10 @@ fn forall_assignment(
     b: usize,
     controls: &[Control],
     branch: Option<When>,
+    beside: &Option<FlatAnchor>,
     x: &ElementAssignment,
 ) -> Result<Assignment, OutOfMemory>
-    ensures { IfOk result (λ p. text.assignment p ≡ definition.forall_assignment (subs_of b (triplets (map control controls.now))) (option_map when branch) (element_assignment x.now)) }
+    ensures { IfOk result (λ p. text.assignment p ≡ definition.forall_assignment (subs_of b (triplets (map control controls.now))) (option_map when branch) (option_map flat_anchor beside.now) (element_assignment x.now)) }
 {
     Ok(Assignment {
         line: x.line,
@@ -174,5 +189,6 @@ fn forall_assignment(
         over: header_subs(alloc, b, controls)?,
         right: index_form(alloc, &x.right)?,
         mask: branch,
+        beside: copied(alloc, beside)?,
     })
 }

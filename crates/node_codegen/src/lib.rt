@@ -10,7 +10,7 @@
 //!
 //! - `nest_loops`, `nest_steps`: its loops, their bounds and steps, and its innermost block.
 //! - `nest_scalars`, `nest_counts`: what this assigns, and how many stored conditions and slots of inner loops it has.
-//! - `nest_names`: where copies, conditions and marks lie. All that follows is made over it.
+//! - `nest_names`: where copies, conditions and marks lie, and what the copies lie beside. All that follows is made over it.
 //! - `nest_terms`, `nest_statements`: expressions, and parallel statements.
 //! - `nest_body`, `nest_finals`: the statements one after the other, and the copies before and after them.
 //! - `nest_code`: the whole nest.

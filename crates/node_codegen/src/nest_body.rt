@@ -8,7 +8,7 @@ ghost use Rattle.node_code.specs.Flat.{AndFlat, Int, NoFlat, Operated, Slot};
 ghost use Rattle.node_code.specs.Instructions.{Jump, JumpIfZero, MakeCopies, Set, Trips};
 ghost use Rattle.node_code.specs.Texts.{instruction, instructions};
 ghost use Rattle.resolved_program.specs.Resolved.{arms_of, block_of, loop_of, statement};
-ghost use Rattle.node_codegen.specs.NestNames.{arms_by, body_by, over_by};
+ghost use Rattle.node_codegen.specs.NestNames.{arms_by, beside_by, body_by, over_by};
 ghost use Rattle.node_codegen.specs.NestTexts.{IsArmCode, IsTextCode, arm_body, arm_test};
 
 use crate::loops::{add_next_turn, set};
@@ -205,7 +205,7 @@ fn tested(
     test: Instruction,
     body: Vec<Instruction>,
 ) -> Result<Vec<Instruction>, OutOfMemory>
-    ensures { IfOk result (λ v. instructions v.items ≡ MakeCopies copy (over_by w.now) (Int (pos 0)) ∷ instruction test ∷ instructions body.items) }
+    ensures { IfOk result (λ v. instructions v.items ≡ MakeCopies copy (over_by w.now) (Int (pos 0)) (beside_by w.now) ∷ instruction test ∷ instructions body.items) }
 {
     let code = vec![in alloc; making(alloc, w, copy, Flat::Int(0))?, test]?;
     with_more(code, body)

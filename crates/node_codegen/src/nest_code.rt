@@ -12,7 +12,7 @@ ghost use Rattle.op_tables.specs.declared.op.Op.TheVariants as operator;
 ghost use Rattle.resolved_program.specs.Resolved.{block_of, loop_of, mark};
 ghost use Rattle.node_codegen.specs.NestCodes.{or_loops};
 ghost use Rattle.node_codegen.specs.NestFinals.{finals_by};
-ghost use Rattle.node_codegen.specs.NestNames.{AreNamesOf, body_by, nest_of, over_by, test_by, text_by, with_index};
+ghost use Rattle.node_codegen.specs.NestNames.{AreNamesOf, beside_by, body_by, nest_of, over_by, test_by, text_by, with_index};
 
 use crate::loops::{of_two, set};
 use crate::nest_body::body_code;
@@ -193,7 +193,7 @@ fn statements_code(
     pc: usize,
 ) -> Result<Vec<Instruction>, OutOfMemory>
     ensures { IfOk result (λ c. instructions c.items
-        ≡ nest_instructions w.now.line (over_by w.now) (text_by w.now) (test_by w.now) w.now.stored (finals_by w.now (block_of inside.now.items) 0 w.now.scalars.items) (plain (block_of inside.now.items)) b pc) }
+        ≡ nest_instructions w.now.line (over_by w.now) (beside_by w.now) (text_by w.now) (test_by w.now) w.now.stored (finals_by w.now (block_of inside.now.items) 0 w.now.scalars.items) (plain (block_of inside.now.items)) b pc) }
 {
     let conditions = block_conditions(inside)?;
     let finals = finals(alloc, w, inside)?;

@@ -5,7 +5,7 @@ ghost use Rattle.program_code.specs.NestInstructions.{conditions_makes, final_in
 ghost use Rattle.node_code.specs.Texts.{instruction, instructions};
 ghost use Rattle.resolved_program.specs.Resolved.{block_of};
 ghost use Rattle.node_codegen.specs.NestFinals.{final, final_of, finals_by};
-ghost use Rattle.node_codegen.specs.NestNames.{over_by};
+ghost use Rattle.node_codegen.specs.NestNames.{beside_by, over_by};
 
 use crate::nest_names::NestNames;
 use crate::nest_scalars::{is_in, operator_in};
@@ -77,7 +77,8 @@ pub(crate) fn add_makes(
     conditions: usize,
 ) -> Result<(), OutOfMemory>
     ensures { OnOk result (instructions code.new.items ≡ instructions code.old.items
-        ++ (finals_makes w.now.line (over_by w.now) (map final finals.now) ++ conditions_makes w.now.line (over_by w.now) w.now.stored conditions)) }
+        ++ (finals_makes w.now.line (over_by w.now) (beside_by w.now) (map final finals.now)
+        ++ conditions_makes w.now.line (over_by w.now) (beside_by w.now) w.now.stored conditions)) }
 {
     add_finals_makes(alloc, code, w, finals)?;
     add_conditions_makes(alloc, code, w, conditions)
@@ -90,7 +91,7 @@ fn add_finals_makes(
     w: &NestNames,
     finals: &[Final],
 ) -> Result<(), OutOfMemory>
-    ensures { OnOk result (instructions code.new.items ≡ instructions code.old.items ++ finals_makes w.now.line (over_by w.now) (map final finals.now)) }
+    ensures { OnOk result (instructions code.new.items ≡ instructions code.old.items ++ finals_makes w.now.line (over_by w.now) (beside_by w.now) (map final finals.now)) }
 {
     for f in finals {
         add_final_makes(alloc, code, w, f)?;
@@ -105,7 +106,7 @@ fn add_final_makes(
     w: &NestNames,
     f: &Final,
 ) -> Result<(), OutOfMemory>
-    ensures { OnOk result (instructions code.new.items ≡ instructions code.old.items ++ final_makes w.now.line (over_by w.now) (final f.now)) }
+    ensures { OnOk result (instructions code.new.items ≡ instructions code.old.items ++ final_makes w.now.line (over_by w.now) (beside_by w.now) (final f.now)) }
 {
     match f {
         Final::Folds { join, row, .. } => {
@@ -127,7 +128,7 @@ fn add_conditions_makes(
     w: &NestNames,
     conditions: usize,
 ) -> Result<(), OutOfMemory>
-    ensures { OnOk result (instructions code.new.items ≡ instructions code.old.items ++ conditions_makes w.now.line (over_by w.now) w.now.stored conditions) }
+    ensures { OnOk result (instructions code.new.items ≡ instructions code.old.items ++ conditions_makes w.now.line (over_by w.now) (beside_by w.now) w.now.stored conditions) }
 {
     for k in 0..conditions {
         let copy = plus(w.stored, k)?;

@@ -2,7 +2,6 @@
 
 ghost use Rattle.std.specs.Prelude.{◌≡◌, ◌∷◌, map, IfOk};
 ghost use Rattle.program_code.specs.NestCode.{along};
-ghost use Rattle.statement_trail.specs.NestParts.{index_in};
 ghost use Rattle.node_code.specs.Forms.{SubAlong};
 ghost use Rattle.node_code.specs.Texts.{subs};
 ghost use Rattle.resolved_program.specs.Resolved.{block_of, inner_loops, loop_of};
@@ -11,9 +10,10 @@ ghost use Rattle.node_codegen.specs.NestNames.{AreNamesOf, mark_by, nest_of, ove
 use crate::nest_counts::block_conditions;
 use crate::nest_loops::add_indices;
 use crate::nest_scalars::{is_in, scalars};
+use anchor_code::{index_in, nest_beside};
 use expression_code::plus;
 use hpf_base::OutOfMemory;
-use node_code::Sub;
+use node_code::{FlatAnchor, Sub};
 use resolved_program::{Loop, Nest, Statement};
 use std::alloc::Global;
 
@@ -36,6 +36,8 @@ pub(crate) struct NestNames {
     pub indices: Vec<usize>,
     /// The first slots of their bounds.
     pub over: Vec<usize>,
+    /// What the copies lie beside.
+    pub beside: Option<FlatAnchor>,
 }
 
 /// Those of a nest, whose bounds stand in slots from `v` on.
@@ -60,6 +62,7 @@ pub(crate) fn nest_names(
     let mut indices = loop_indices(alloc, nest.inner_loops, outermost, body)?;
     let over = bound_slots(alloc, v, &indices)?;
     indices.reverse();
+    let beside = nest_beside(alloc, &indices, inside)?;
     Ok(NestNames {
         line,
         names,
@@ -69,6 +72,7 @@ pub(crate) fn nest_names(
         marks,
         indices,
         over,
+        beside,
     })
 }
 
@@ -99,18 +103,6 @@ fn bound_slots(alloc: Global, v: usize, indices: &[usize]) -> Result<Vec<usize>,
     }
     slots.reverse();
     Ok(slots)
-}
-
-/// The place of a number in a list, from 0.
-pub(crate) fn index_in(list: &[usize], k: usize) -> Option<usize>
-    ensures { result ≡ index_in list.now 0 k }
-{
-    for i in 0..list.len() {
-        if list[i] == k {
-            return Some(i);
-        }
-    }
-    None
 }
 
 impl NestNames {

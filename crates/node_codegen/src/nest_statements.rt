@@ -1,21 +1,19 @@
 //! The parallel statements of a nest of INDEPENDENT loops.
 
-ghost use Rattle.std.specs.Prelude.{◌≡◌, ◌+◌, ◌++◌, [], false, map, IfOk, OnOk, pos};
+ghost use Rattle.std.specs.Prelude.{◌≡◌, ◌+◌, ◌++◌, false, map, IfOk, OnOk};
 ghost use Rattle.nest_syntax.specs.Assigning.{ToElement, ToScalar};
 ghost use Rattle.nest_syntax.specs.Asked.{guard_asked, tested_asked};
-ghost use Rattle.program_code.specs.NestInstructions.{mark_instructions, setting_else, setting_mark, testing, whens_of};
+ghost use Rattle.program_code.specs.NestInstructions.{mark_instructions, setting, setting_else, setting_mark, testing, whens_of};
 ghost use Rattle.node_code.specs.declared.nest.NestRole.TheVariants.{Assigns};
-ghost use Rattle.node_code.specs.Flat.{Int};
-ghost use Rattle.node_code.specs.Forms.{FlatForm};
 ghost use Rattle.node_code.specs.Instructions as code;
-ghost use Rattle.node_code.specs.NestStatements.{CopyLeft};
 ghost use Rattle.node_code.specs.Texts.{flat, form, instruction, instructions, nest_left, when};
 ghost use Rattle.resolved_program.specs.Resolved.{term, terms_of};
-ghost use Rattle.node_codegen.specs.NestNames.{mark_by, over_by, test_by, text_by, texts_by};
+ghost use Rattle.node_codegen.specs.NestNames.{beside_by, mark_by, over_by, test_by, text_by, texts_by};
 
 use crate::nest_names::NestNames;
 use crate::nest_terms::{NestTerm, nest_subs, nest_term};
 use crate::sequences::only;
+use anchor_code::copied;
 use expression_code::plus;
 use hpf_base::OutOfMemory;
 use node_code::{ArrayForm, Flat, Instruction, NestLeft, NestRole, NestStatement, When};
@@ -93,7 +91,7 @@ fn push_mark(
     k: usize,
 ) -> Result<(), OutOfMemory>
     ensures { OnOk result (instructions code.new.items
-        ≡ instructions code.old.items ++ mark_instructions w.now.line (over_by w.now) (text_by w.now) (test_by w.now) w.now.stored guard (mark_by w.now k)) }
+        ≡ instructions code.old.items ++ mark_instructions w.now.line (over_by w.now) (beside_by w.now) (text_by w.now) (test_by w.now) w.now.stored guard (mark_by w.now k)) }
 {
     match w.mark(k)? {
         Some(row) => {
@@ -140,10 +138,12 @@ fn assigning(
       left = nest_left left;
       right = form value.form;
       role = Assigns;
+      beside = beside_by w.now;
     })) }
 {
     let over = w.over(alloc)?;
     let whens = guard_whens(alloc, w.stored, guard)?;
+    let beside = copied(alloc, &w.beside)?;
     Ok(Instruction::ParNest(NestStatement {
         line,
         over,
@@ -153,6 +153,7 @@ fn assigning(
         left,
         right: value.form,
         role: NestRole::Assigns,
+        beside,
     }))
 }
 
@@ -163,7 +164,7 @@ fn setting_mark(
     guard: Option<usize>,
     row: usize,
 ) -> Result<Instruction, OutOfMemory>
-    ensures { IfOk result (λ i. instruction i ≡ code.ParNest (setting_mark (over_by w.now) (whens_of w.now.stored (guard_asked guard)) row)) }
+    ensures { IfOk result (λ i. instruction i ≡ code.ParNest (setting_mark (over_by w.now) (beside_by w.now) (whens_of w.now.stored (guard_asked guard)) row)) }
 {
     let whens = guard_whens(alloc, w.stored, guard)?;
     setting(alloc, w, whens, row, NestRole::SetsMark)
@@ -179,11 +180,12 @@ pub(crate) fn testing(
     condition: &Term,
     copy: usize,
 ) -> Result<Instruction, OutOfMemory>
-    ensures { IfOk result (λ i. instruction i ≡ code.ParNest (testing (over_by w.now) (whens_of w.now.stored (tested_asked guard earlier.now)) (test_by w.now (record { line = line; text = term condition.now })) copy)) }
+    ensures { IfOk result (λ i. instruction i ≡ code.ParNest (testing (over_by w.now) (beside_by w.now) (whens_of w.now.stored (tested_asked guard earlier.now)) (test_by w.now (record { line = line; text = term condition.now })) copy)) }
 {
     let over = w.over(alloc)?;
     let whens = tested_whens(alloc, w.stored, guard, earlier)?;
     let value = nest_term(alloc, w, condition)?;
+    let beside = copied(alloc, &w.beside)?;
     Ok(Instruction::ParNest(NestStatement {
         line,
         over,
@@ -193,6 +195,7 @@ pub(crate) fn testing(
         left: NestLeft::Copy(copy),
         right: value.form,
         role: NestRole::Tests,
+        beside,
     }))
 }
 
@@ -204,7 +207,7 @@ pub(crate) fn setting_else(
     earlier: &[usize],
     copy: usize,
 ) -> Result<Instruction, OutOfMemory>
-    ensures { IfOk result (λ i. instruction i ≡ code.ParNest (setting_else (over_by w.now) (whens_of w.now.stored (tested_asked guard earlier.now)) copy)) }
+    ensures { IfOk result (λ i. instruction i ≡ code.ParNest (setting_else (over_by w.now) (beside_by w.now) (whens_of w.now.stored (tested_asked guard earlier.now)) copy)) }
 {
     let whens = tested_whens(alloc, w.stored, guard, earlier)?;
     setting(alloc, w, whens, copy, NestRole::SetsElse)
@@ -218,18 +221,10 @@ fn setting(
     row: usize,
     role: NestRole,
 ) -> Result<Instruction, OutOfMemory>
-    ensures { IfOk result (λ i. instruction i ≡ code.ParNest (record {
-      line = 0;
-      over = over_by w.now;
-      whens = map when whens.items;
-      copies = [];
-      names = [];
-      left = CopyLeft row;
-      right = FlatForm (Int (pos 1));
-      role = role;
-    })) }
+    ensures { IfOk result (λ i. instruction i ≡ code.ParNest (setting (over_by w.now) (beside_by w.now) (map when whens.items) role row)) }
 {
     let over = w.over(alloc)?;
+    let beside = copied(alloc, &w.beside)?;
     Ok(Instruction::ParNest(NestStatement {
         line: 0,
         over,
@@ -239,6 +234,7 @@ fn setting(
         left: NestLeft::Copy(row),
         right: ArrayForm::Flat(Flat::Int(1)),
         role,
+        beside,
     }))
 }
 
@@ -249,8 +245,14 @@ pub(crate) fn making(
     copy: usize,
     start: Flat,
 ) -> Result<Instruction, OutOfMemory>
-    ensures { IfOk result (λ i. instruction i ≡ code.MakeCopies copy (over_by w.now) (flat start)) }
+    ensures { IfOk result (λ i. instruction i ≡ code.MakeCopies copy (over_by w.now) (flat start) (beside_by w.now)) }
 {
     let over = w.over(alloc)?;
-    Ok(Instruction::MakeCopies { copy, over, start })
+    let beside = copied(alloc, &w.beside)?;
+    Ok(Instruction::MakeCopies {
+        copy,
+        over,
+        start,
+        beside,
+    })
 }

@@ -1,19 +1,19 @@
 //! The expressions of a nest's texts: an index of the nest, or a scalar whose copy is read, is an index of the form.
 
 ghost use Rattle.std.specs.Prelude.{◌≡◌, [], ◌∷◌, ◌++◌, map, IfOk, OnOk};
-ghost use Rattle.program_code.specs.ExpressionCode.{index_flat, index_flats, index_form, index_forms, index_subs};
-ghost use Rattle.nest_syntax.specs.NestTerms.{all_indexed, indexed, scalar_or_index};
+ghost use Rattle.program_code.specs.ExpressionCode.{index_form, index_forms, index_subs};
+ghost use Rattle.nest_syntax.specs.NestTerms.{all_indexed, indexed};
 ghost use Rattle.statement_trail.specs.NestParts.{all_scalars_in, each_once, index_in, of_these, scalars_in};
-ghost use Rattle.node_code.specs.Flat.{Operated};
 ghost use Rattle.node_code.specs.Forms.{OperationForm, SectionForm};
-ghost use Rattle.node_code.specs.Texts.{flat, flats_of, form, forms_of, subs};
+ghost use Rattle.node_code.specs.Texts.{form, forms_of, subs};
 ghost use Rattle.resolved_program.specs.Resolved.{term, terms_of};
 ghost use Rattle.node_codegen.specs.NestNames.{axis_by, copied_by, place_by};
 
-use crate::nest_names::{NestNames, index_in};
+use crate::nest_names::NestNames;
 use crate::nest_scalars::is_in;
+use anchor_code::nest_flat;
 use hpf_base::OutOfMemory;
-use node_code::{ArrayForm, Flat, Sub};
+use node_code::{ArrayForm, Sub};
 use op_tables::Op;
 use resolved_program::Term;
 use std::alloc::Global;
@@ -133,50 +133,6 @@ fn each_once(alloc: Global, list: &[usize]) -> Result<Vec<usize>, OutOfMemory>
 }
 
 // ---- forms
-
-/// What a scalar is in a form.
-fn scalar_flat(axes: &[usize], k: usize) -> Flat
-    ensures { flat result ≡ index_flat (scalar_or_index (index_in axes.now 0 k) k) }
-{
-    match index_in(axes, k) {
-        Some(j) => Flat::Axis(j),
-        None => Flat::Slot(k),
-    }
-}
-
-/// A subscript, which names no element.
-#[cycle(nest_flat)]
-fn nest_flat(alloc: Global, axes: &[usize], t: &Term) -> Result<Flat, OutOfMemory>
-    ensures { IfOk result (λ f. flat f ≡ index_flat (indexed (index_in axes.now 0) (term t.now))) }
-{
-    match t {
-        Term::Number(n) => Ok(Flat::Int(*n)),
-        Term::Scalar(k) => Ok(scalar_flat(axes, *k)),
-        Term::Index(k) => Ok(Flat::Axis(*k)),
-        Term::Apply(op, operands) => operated(alloc, axes, *op, operands),
-        _ => Ok(Flat::Int(0)),
-    }
-}
-
-/// An operator in a subscript.
-#[cycle(nest_flat)]
-fn operated(alloc: Global, axes: &[usize], op: Op, operands: &[Term]) -> Result<Flat, OutOfMemory>
-    ensures { IfOk result (λ f. flat f ≡ Operated op (index_flats (all_indexed (index_in axes.now 0) (terms_of operands.now)))) }
-{
-    Ok(Flat::Operated(op, nest_flats(alloc, axes, operands)?))
-}
-
-/// Subscripts in order.
-#[cycle(nest_flat)]
-fn nest_flats(alloc: Global, axes: &[usize], terms: &[Term]) -> Result<Vec<Flat>, OutOfMemory>
-    ensures { IfOk result (λ fs. flats_of fs.items ≡ index_flats (all_indexed (index_in axes.now 0) (terms_of terms.now))) }
-{
-    let mut flats = Vec::new(alloc);
-    for t in terms {
-        flats.push(nest_flat(alloc, axes, t)?)?;
-    }
-    Ok(flats)
-}
 
 /// Subscripts as those of a section.
 pub(crate) fn nest_subs(

@@ -139,6 +139,7 @@ fn section(
         line,
         over: subs_of(alloc, b, subscripts)?,
         form: ArrayForm::Section(array, subs_of(alloc, b, subscripts)?),
+        beside: None,
     })
 }
 

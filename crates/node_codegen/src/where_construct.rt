@@ -1,16 +1,18 @@
 //! WHERE (Fortran 95, 7.5.3).
 
-ghost use Rattle.std.specs.Prelude.{◌≡◌, [], ◌∷◌, ◌++◌, IfOk, OnOk, map};
+ghost use Rattle.std.specs.Prelude.{◌≡◌, [], ◌∷◌, ◌++◌, IfOk, OnOk, map, option_map};
 ghost use Rattle.node_code.specs.Instructions.{MakeCopy, OwnLimits, ParCopy, Verdict};
-ghost use Rattle.node_code.specs.Texts.{instructions, when};
+ghost use Rattle.node_code.specs.Texts.{evaluation, flat_anchor, instructions};
 ghost use Rattle.resolved_program.specs.Resolved.{section_assignment, term};
-ghost use Rattle.program_code.specs.ExpressionCode.{first_subs, form_of, or_no_sub, own_evaluation, parts_code, parts_slots};
+ghost use Rattle.program_code.specs.ExpressionCode.{copied_evaluation, form_of, parts_code, parts_slots};
 ghost use Rattle.program_code.specs.StatementCode.{masked_code, masked_slots, where_code};
+ghost use Rattle.node_codegen.specs.Maskings.{masking};
 
 use crate::array_assignments::add_masked_assignment;
-use expression_code::{own_evaluation, parts_code, parts_slots, plus, subscripts_slots};
+use anchor_code::{copied, where_beside};
+use expression_code::{form_of, own_space, parts_code, parts_slots, plus, subscripts_slots};
 use hpf_base::OutOfMemory;
-use node_code::{Instruction, When};
+use node_code::{Evaluation, FlatAnchor, Instruction, When};
 use resolved_program::{SectionAssignment, Term};
 use std::alloc::Global;
 
@@ -39,9 +41,10 @@ pub(crate) fn where_code(
 ) -> Result<Vec<Instruction>, OutOfMemory>
     ensures { IfOk result (λ v. instructions v.items ≡ where_code copy line b (term mask.now) (map section_assignment body.now) (map section_assignment others.now)) }
 {
+    let beside = &where_beside(alloc, body, others)?;
     let b1 = plus(b, parts_slots(mask)?)?;
     let mut code = parts_code(alloc, line, b, mask)?;
-    push_mask(alloc, &mut code, copy, line, b, mask)?;
+    push_mask(alloc, &mut code, copy, line, b, mask, beside)?;
     add_masked(
         alloc,
         &mut code,
@@ -49,6 +52,7 @@ pub(crate) fn where_code(
         b,
         mask,
         When { copy, value: true },
+        beside,
         body,
     )?;
     add_masked(
@@ -58,6 +62,7 @@ pub(crate) fn where_code(
         b,
         mask,
         When { copy, value: false },
+        beside,
         others,
     )?;
     Ok(code)
@@ -71,24 +76,43 @@ fn push_mask(
     line: u32,
     b: usize,
     mask: &Term,
+    beside: &Option<FlatAnchor>,
 ) -> Result<(), OutOfMemory>
     ensures { OnOk result (instructions code.new.items ≡ instructions code.old.items
-        ++ OwnLimits (own_evaluation line (form_of b (term mask.now)))
-        ∷ MakeCopy copy (own_evaluation line (form_of b (term mask.now)))
-        ∷ ParCopy copy (own_evaluation line (form_of b (term mask.now)))
+        ++ OwnLimits (copied_evaluation line (form_of b (term mask.now)) (option_map flat_anchor beside.now))
+        ∷ MakeCopy copy (copied_evaluation line (form_of b (term mask.now)) (option_map flat_anchor beside.now))
+        ∷ ParCopy copy (copied_evaluation line (form_of b (term mask.now)) (option_map flat_anchor beside.now))
         ∷ Verdict ∷ []) }
 {
-    code.push(Instruction::OwnLimits(own_evaluation(alloc, line, b, mask)?))?;
+    code.push(Instruction::OwnLimits(mask_evaluation(alloc, line, b, mask, beside)?))?;
     code.push(Instruction::MakeCopy {
         copy,
-        evaluation: own_evaluation(alloc, line, b, mask)?,
+        evaluation: mask_evaluation(alloc, line, b, mask, beside)?,
     })?;
     code.push(Instruction::ParCopy {
         copy,
-        evaluation: own_evaluation(alloc, line, b, mask)?,
+        evaluation: mask_evaluation(alloc, line, b, mask, beside)?,
     })?;
     code.push(Instruction::Verdict)?;
     Ok(())
+}
+
+/// The mask over its own space.
+fn mask_evaluation(
+    alloc: Global,
+    line: u32,
+    b: usize,
+    mask: &Term,
+    beside: &Option<FlatAnchor>,
+) -> Result<Evaluation, OutOfMemory>
+    ensures { IfOk result (λ e. evaluation e ≡ copied_evaluation line (form_of b (term mask.now)) (option_map flat_anchor beside.now)) }
+{
+    Ok(Evaluation {
+        line,
+        over: own_space(alloc, b, mask)?,
+        form: form_of(alloc, b, mask)?,
+        beside: copied(alloc, beside)?,
+    })
 }
 
 /// Puts the code of the assignments, one after another, over the space of the mask, whose slots stand from `free` on.
@@ -99,13 +123,14 @@ fn add_masked(
     free: usize,
     mask: &Term,
     branch: When,
+    beside: &Option<FlatAnchor>,
     body: &[SectionAssignment],
 ) -> Result<(), OutOfMemory>
     ensures { OnOk result (instructions code.new.items ≡ instructions code.old.items
-        ++ masked_code b (or_no_sub (first_subs (form_of free (term mask.now))), when branch) (map section_assignment body.now)) }
+        ++ masked_code b (masking (form_of free (term mask.now)) branch beside.now) (map section_assignment body.now)) }
 {
     for x in body {
-        add_masked_assignment(alloc, code, b, x, free, mask, branch)?;
+        add_masked_assignment(alloc, code, b, x, free, mask, branch, beside)?;
     }
     Ok(())
 }

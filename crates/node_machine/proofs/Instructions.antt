@@ -69,7 +69,7 @@ module _ (nodes : ℕ) (maps : List Mapping) (shapes : List (List Dim)) where
   local-meaning (Par p) is = cc
   local-meaning (ParForall p) is = cc
   local-meaning (ParNest p) is = cc
-  local-meaning (MakeCopies copy over start) is = cc
+  local-meaning (MakeCopies copy over start beside) is = cc
   local-meaning (MakeCopy copy p) is = cc
   local-meaning (ParCopy copy p) is = cc
   local-meaning (ParForallCopy copy p) is = cc

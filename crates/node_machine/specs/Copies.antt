@@ -1,20 +1,37 @@
 -- Of private clauses.
 -- No public clause cites this file. Copies that are made.
-use Rattle.std.specs.Prelude.{◌≡◌, ◌≤◌, All, ℕ, ℤ, List, length}
+use Rattle.std.specs.Prelude.{◌≡◌, ◌≤◌, All, ℕ, ℤ, pos, List, Option, length}
 use Rattle.hpf_base.specs.declared.limits.TheConstants.{MAX_ELEMENTS, MAX_RANK}
 use Rattle.hpf_base.specs.ElementOrder.{product}
 use Rattle.array_meaning.specs.Faults.{Fault}
 use Rattle.machine_steps.specs.Instr.{Instr, MakeCopy}
 use Rattle.machine_steps.specs.Layout.{Layout}
-use Rattle.machine_steps.specs.CopyLayout.{layout_of}
+use Rattle.node_code.specs.Anchors.{FlatAnchor}
+use Rattle.node_code.specs.Flat.{Flat}
+use Rattle.node_code.specs.Forms.{Sub}
+use Rattle.node_code.specs.Parallel.{Evaluation}
+use Rattle.code_meaning.specs.Anchors.{anchor_in}
+use Rattle.code_meaning.specs.Beside.{aligned_layout, aligned_layout_of}
+use Rattle.code_meaning.specs.Flat.{slots_value}
+use Rattle.code_meaning.specs.NestStatements.{copies_extents}
+use Rattle.code_meaning.specs.Parallel.{evaluation_extents}
 use Rattle.node_machine.specs.declared.copies.MadeCopy.{MadeCopy}
+
+-- a copy of the extents of an array expression on so many nodes, with 0 everywhere
+abbrev pub copying : (nodes copy : ℕ) → Evaluation → Instr Fault
+copying nodes copy p = MakeCopy copy (λ layouts slots. aligned_layout nodes layouts (anchor_in slots p.over p.beside) (evaluation_extents p slots)) (λ slots. pos 0)
+
+-- copies of a nest with these indices on so many nodes, all with one value
+abbrev pub copying_for_nest : (nodes copy : ℕ) → List Sub → Flat → Option FlatAnchor → Instr Fault
+copying_for_nest nodes copy over start beside =
+    MakeCopy copy (λ layouts slots. aligned_layout nodes layouts (anchor_in slots over beside) (copies_extents over slots)) (λ slots. slots_value slots start)
 
 -- what the instruction makes by these slots, on so many nodes
 pub record IsMade (i : Instr Fault) (nodes : ℕ) (slots : List ℤ) (m : MadeCopy) : Type 0 where
   pub layout : List Layout → List ℤ → Layout
   pub start : List ℤ → ℤ
   pub is : i ≡ MakeCopy m.copy layout start
-  pub lies : (layouts : List Layout) → layout layouts slots ≡ layout_of nodes m.extents.items
+  pub lies : (layouts : List Layout) → layout layouts slots ≡ aligned_layout_of nodes layouts m.anchor m.extents.items
   pub starts : start slots ≡ m.start
   pub rank : length m.extents.items ≤ MAX_RANK
   pub each : All (λ extent. extent ≤ MAX_ELEMENTS) m.extents.items

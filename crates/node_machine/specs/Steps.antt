@@ -1,6 +1,6 @@
 -- Of private clauses.
 -- No public clause cites this file. What the instruction at a node's place has it do.
-use Rattle.std.specs.Prelude.{◌≡◌, ◌<◌, ◌≤◌, ◌^◌, ℕ, pos, List, Some, length, true, ⊤}
+use Rattle.std.specs.Prelude.{◌≡◌, ◌<◌, ◌≤◌, ◌^◌, ℕ, List, Some, length, option_map, true, ⊤}
 use Rattle.std.specs.List.{slice_get}
 use Rattle.hpf_base.specs.declared.index.Shape.{Shape}
 use Rattle.hpf_base.specs.declared.limits.TheConstants.{MAX_RANK}
@@ -13,14 +13,12 @@ use Rattle.machine_steps.specs.Rounds.{rounds_on}
 use Rattle.code_meaning.specs.FaultValues.{fault_values}
 use Rattle.node_code.specs.Instructions.{Instruction, PrintSection}
 use Rattle.code_meaning.specs.Instructions.{item_of}
-use Rattle.code_meaning.specs.Flat.{slots_value}
-use Rattle.code_meaning.specs.NestStatements.{copies_extents}
-use Rattle.code_meaning.specs.Parallel.{evaluation_extents, fold_of}
+use Rattle.code_meaning.specs.Parallel.{fold_of}
 use Rattle.code_meaning.specs.ProgramText.{Text, text_meaning}
-use Rattle.node_code.specs.Texts.{evaluation, flat, subs}
-use Rattle.machine_steps.specs.CopyLayout.{copy_layout}
+use Rattle.node_code.specs.Texts.{evaluation, flat, flat_anchor, subs}
 use Rattle.machine_steps.specs.SameLayouts.{is_same_layout}
 use Rattle.slot_values.specs.LocalInstructions.{is_local}
+use Rattle.node_machine.specs.Copies.{copying, copying_for_nest}
 use Rattle.node_machine.specs.Parts.{IsPar}
 use Rattle.node_machine.specs.Prints.{IsPrintedSection, IsPrintedText, PrintsLine, text_of}
 use Rattle.node_machine.specs.Reductions.{IsReducing}
@@ -58,9 +56,8 @@ Does i nodes k step.Verdict = i ≡ machine.Verdict
 Does i nodes k (step.ReduceValues r) = IsReducing i k r
 Does i nodes k step.ReduceVerdict = IsReduceVerdict i k
 Does i nodes k (step.ReduceTree r) = IsReduceTree i k r
-Does i nodes k (step.MakeCopy p) = i ≡ machine.MakeCopy p.copy (λ layouts slots. copy_layout nodes (evaluation_extents (evaluation p.evaluation.now) slots)) (λ slots. pos 0)
-Does i nodes k (step.MakeCopies p) =
-    i ≡ machine.MakeCopy p.copy (λ layouts slots. copy_layout nodes (copies_extents (subs p.over.now.items) slots)) (λ slots. slots_value slots (flat p.start.now))
+Does i nodes k (step.MakeCopy p) = i ≡ copying nodes p.copy (evaluation p.evaluation.now)
+Does i nodes k (step.MakeCopies p) = i ≡ copying_for_nest nodes p.copy (subs p.over.now.items) (flat p.start.now) (option_map flat_anchor p.beside.now)
 Does i nodes k (step.PrintText t) = IsPrintedText i k t
 Does i nodes k (step.PrintSection s) = IsPrintedSection i k s
 Does i nodes k step.PrintLine = PrintsLine i k

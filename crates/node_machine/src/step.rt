@@ -127,10 +127,16 @@ fn step_of<'a>(program: &'a NodeProgram, i: &'a Instruction, substep: usize) -> 
             shapes,
             statement: Parallel::Nest(p),
         }),
-        Instruction::MakeCopies { copy, over, start } => Step::MakeCopies(NestCopies {
+        Instruction::MakeCopies {
+            copy,
+            over,
+            start,
+            beside,
+        } => Step::MakeCopies(NestCopies {
             copy: *copy,
             over,
             start,
+            beside,
         }),
         Instruction::MakeCopy { copy, evaluation } => Step::MakeCopy(Copying {
             copy: *copy,

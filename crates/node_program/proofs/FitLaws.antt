@@ -119,7 +119,7 @@ module _ (nodes : ℕ) (maps : List Mapping) (shapes : List (List Dim)) (tables 
   made-after (MakeCopy copy' p) copy layout start e h =
       let le : length shapes ≤ copy' = leb-true (length shapes) copy' (and_parts (nat_le (length shapes) copy') (nat_le (length p.over) MAX_RANK) h).0 in
       subst (λ k. length shapes ≤ k) (ap copy_row e) le
-  made-after (MakeCopies copy' over first) copy layout start e h =
+  made-after (MakeCopies copy' over first beside) copy layout start e h =
       let le : length shapes ≤ copy' = leb-true (length shapes) copy' (and_parts (nat_le (length shapes) copy') (nat_le (length over) MAX_RANK) h).0 in
       subst (λ k. length shapes ≤ k) (ap copy_row e) le
   made-after i copy layout start e h = cc
@@ -153,7 +153,7 @@ module _ (declared : ℕ) (tables : List TableView) (rows : List Shape) (copy : 
       let both = and_parts (list_all (λ n. nat_lt n.array declared) new) (list_all (fits_row tables rows) new) h in
       and_from _ _ both.0 (mappings-kept new both.0 both.1)
   instruction-kept (MakeCopy k p) h = h
-  instruction-kept (MakeCopies k over start) h = h
+  instruction-kept (MakeCopies k over start beside) h = h
   instruction-kept (Par p) h = h
   instruction-kept (ParForall p) h = h
   instruction-kept (ParNest p) h = h

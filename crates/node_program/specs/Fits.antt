@@ -31,7 +31,7 @@ abbrev pub fits_rows : ℕ → List TableView → List Shape → Instruction →
 fits_rows declared tables rows (Par p) = nat_le (length p.over) MAX_RANK
 fits_rows declared tables rows (ParForall p) = nat_le (length p.over) MAX_RANK
 fits_rows declared tables rows (ParNest p) = nat_le (length p.over) MAX_RANK
-fits_rows declared tables rows (MakeCopies copy over start) = nat_le declared copy && nat_le (length over) MAX_RANK
+fits_rows declared tables rows (MakeCopies copy over start beside) = nat_le declared copy && nat_le (length over) MAX_RANK
 fits_rows declared tables rows (ParCopy copy p) = nat_le (length p.over) MAX_RANK
 fits_rows declared tables rows (ParForallCopy copy p) = nat_le (length p.over) MAX_RANK
 fits_rows declared tables rows (Reduce p r x) = nat_le (length p.over) MAX_RANK

@@ -11,8 +11,9 @@
 //! What holds in between: where a node owns one element, any node owns it exactly where the two agree in each distributed dimension that
 //! isn't replicated. So elements with the same least owner have the same owners, the least owner tells all of them, and an element has one
 //! local address: its number, from 0, among the elements with its least owner. Each element of a copy has an owner, whatever its extents.
-//! Both come from one table a dimension, so they take memory by the sum of the extents: each place adds its part to the number of the least
-//! owner, and its rank among the places with its coordinate, times what the owner owns on the dimensions before, to the local address.
+//! Both come from one table a dimension: of its places, or, where there are 65,536 of these or more, of the runs of one period. So they take
+//! memory by the sum of the extents at most: each place adds its part to the number of the least owner, and its rank among the places with
+//! its coordinate, times what the owner owns on the dimensions before, to the local address.
 //!
 //! *Proved:* Who owns each element of a row and where it lies there, by look-ups in tables of its dimensions:
 //! `Owners::owners`, `owns`, `least_owner`, `address`, `held`. Tables compare as alike exactly where they are the same:

@@ -25,18 +25,18 @@ use Rattle.code_meaning.specs.Parallel.{indices_in, mask_reads, reads_at, shape_
 use Rattle.part_steps.specs.Agreement.{agree_at, agree_on_flat, agree_on_flats, agree_on_subs, agree_on_form, agree_on_forms, agree_on_assignment, agree_on_evaluation, agree_on_left, agree_on_nest, agree_on}
 use Rattle.part_steps.specs.InstructionParts.{instruction_part}
 
-both : (a b : Bool) → (a && b) ≡ true → (a ≡ true) × (b ≡ true)
+pub both : (a b : Bool) → (a && b) ≡ true → (a ≡ true) × (b ≡ true)
 both true b is = (refl, is)
 both false b is = absurd (true≢false (sym is))
 
 module _ (old new : List ℤ) where
-  slot_same : (k : ℕ) → agree_at old new k ≡ true → slot old k ≡ slot new k
+  pub slot_same : (k : ℕ) → agree_at old new k ≡ true → slot old k ≡ slot new k
   slot_same k is = (Decides-int_eq (slot old k) (slot new k)).0 is
 
   -- ---- expressions and sections, at any index tuple
 
   mutual
-    flat_same : (axes : List ℤ) (f : Flat) → agree_on_flat old new f ≡ true → flat_value old axes [] f ≡ flat_value new axes [] f
+    pub flat_same : (axes : List ℤ) (f : Flat) → agree_on_flat old new f ≡ true → flat_value old axes [] f ≡ flat_value new axes [] f
     flat_same axes (Int v) is = refl
     flat_same axes (Slot k) is = ap Ok (slot_same k is)
     flat_same axes (Axis k) is = refl
@@ -83,7 +83,7 @@ module _ (old new : List ℤ) where
     assignment_same p is =
         let over : selections_at old [] p.over ≡ selections_at new [] p.over = selections_same [] p.over (both _ _ is).0 in
         let left : selections_at old [] p.left ≡ selections_at new [] p.left = selections_same [] p.left (both _ _ (both _ _ is).1).0 in
-        let right : elemental_at old [] p.right ≡ elemental_at new [] p.right = elemental_same [] p.right (both _ _ (both _ _ is).1).1 in
+        let right : elemental_at old [] p.right ≡ elemental_at new [] p.right = elemental_same [] p.right (both _ _ (both _ _ (both _ _ is).1).1).0 in
         λ i. Some (record {
           tuples = space_count (extents (over i));
           reads = λ t. mask_reads p.mask t ++ reads_at table.shapes (positions (extents (over i)) t) (right i);
@@ -96,7 +96,7 @@ module _ (old new : List ℤ) where
         let over : selections_at old [] p.over ≡ selections_at new [] p.over = selections_same [] p.over (both _ _ is).0 in
         let indices : (t : ℕ) → indices_in p.over old t ≡ indices_in p.over new t = indices_same p.over (both _ _ is).0 in
         let left : (axes : List ℤ) → selections_at old axes p.left ≡ selections_at new axes p.left = λ axes. selections_same axes p.left (both _ _ (both _ _ is).1).0 in
-        let right : (axes : List ℤ) → elemental_at old axes p.right ≡ elemental_at new axes p.right = λ axes. elemental_same axes p.right (both _ _ (both _ _ is).1).1 in
+        let right : (axes : List ℤ) → elemental_at old axes p.right ≡ elemental_at new axes p.right = λ axes. elemental_same axes p.right (both _ _ (both _ _ (both _ _ is).1).1).0 in
         λ i. Some (record {
           tuples = space_count (extents (over i));
           reads = λ t. mask_reads p.mask t ++ reads_at table.shapes (indices t i) (right (indices t i) i);
@@ -118,7 +118,7 @@ module _ (old new : List ℤ) where
         let over : selections_at old [] p.over ≡ selections_at new [] p.over = selections_same [] p.over (both _ _ is).0 in
         let indices : (t : ℕ) → indices_in p.over old t ≡ indices_in p.over new t = indices_same p.over (both _ _ is).0 in
         let left : (t : ℕ) → nest_place table.shapes p.over p.left old t ≡ nest_place table.shapes p.over p.left new t = left_same p.over p.left (both _ _ is).0 (both _ _ (both _ _ is).1).0 in
-        let right : (axes : List ℤ) → elemental_at old axes p.right ≡ elemental_at new axes p.right = λ axes. elemental_same axes p.right (both _ _ (both _ _ is).1).1 in
+        let right : (axes : List ℤ) → elemental_at old axes p.right ≡ elemental_at new axes p.right = λ axes. elemental_same axes p.right (both _ _ (both _ _ (both _ _ is).1).1).0 in
         λ i. Some (record {
           tuples = space_count (extents (over i));
           reads = λ t. when_spots p.whens t ++ (row_spots p.copies t ++ reads_at table.shapes (indices t i) (right (indices t i) i));
@@ -129,7 +129,7 @@ module _ (old new : List ℤ) where
         instruction_part nodes layouts old (meaning_of table (code.ParCopy copy p)) ≡ instruction_part nodes layouts new (meaning_of table (code.ParCopy copy p))
     evaluation_same copy p is =
         let over : selections_at old [] p.over ≡ selections_at new [] p.over = selections_same [] p.over (both _ _ is).0 in
-        let form : elemental_at old [] p.form ≡ elemental_at new [] p.form = elemental_same [] p.form (both _ _ is).1 in
+        let form : elemental_at old [] p.form ≡ elemental_at new [] p.form = elemental_same [] p.form (both _ _ (both _ _ is).1).0 in
         λ i. Some (record {
           tuples = space_count (extents (over i));
           reads = λ t. reads_at table.shapes (positions (extents (over i)) t) (form i);
@@ -141,7 +141,7 @@ module _ (old new : List ℤ) where
     mask_same copy p is =
         let over : selections_at old [] p.over ≡ selections_at new [] p.over = selections_same [] p.over (both _ _ is).0 in
         let indices : (t : ℕ) → indices_in p.over old t ≡ indices_in p.over new t = indices_same p.over (both _ _ is).0 in
-        let form : (axes : List ℤ) → elemental_at old axes p.form ≡ elemental_at new axes p.form = λ axes. elemental_same axes p.form (both _ _ is).1 in
+        let form : (axes : List ℤ) → elemental_at old axes p.form ≡ elemental_at new axes p.form = λ axes. elemental_same axes p.form (both _ _ (both _ _ is).1).0 in
         λ i. Some (record {
           tuples = space_count (extents (over i));
           reads = λ t. reads_at table.shapes (indices t i) (form (indices t i) i);
@@ -152,7 +152,7 @@ module _ (old new : List ℤ) where
         instruction_part nodes layouts old (meaning_of table (code.Reduce p o x)) ≡ instruction_part nodes layouts new (meaning_of table (code.Reduce p o x))
     reduction_same p o x is =
         let over : selections_at old [] p.over ≡ selections_at new [] p.over = selections_same [] p.over (both _ _ is).0 in
-        let form : elemental_at old [] p.form ≡ elemental_at new [] p.form = elemental_same [] p.form (both _ _ is).1 in
+        let form : elemental_at old [] p.form ≡ elemental_at new [] p.form = elemental_same [] p.form (both _ _ (both _ _ is).1).0 in
         λ i. Some (record {
           tuples = space_count (extents (over i));
           reads = λ t. reads_at table.shapes (positions (extents (over i)) t) (form i);

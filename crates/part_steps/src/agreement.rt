@@ -1,12 +1,14 @@
 //! Slots that are mentioned.
 
-ghost use Rattle.std.specs.Prelude.{◌≡◌, ◌≤◌, ◌+◌};
+ghost use Rattle.std.specs.Prelude.{◌≡◌, ◌≤◌, ◌+◌, map, option_map};
+ghost use Rattle.std.specs.List.{list_all};
 ghost use Rattle.code_meaning.specs.Flat.{slot};
-ghost use Rattle.node_code.specs.Texts.{assignment, evaluation, flat, flats_of, form, forms_of, instruction, nest_left, nest_statement, sub, subs};
-ghost use Rattle.part_steps.specs.Agreement.{agree_at, agree_on, agree_on_assignment, agree_on_evaluation, agree_on_flat, agree_on_flats, agree_on_form, agree_on_forms, agree_on_left, agree_on_nest, agree_on_sub, agree_on_subs};
+ghost use Rattle.node_code.specs.Texts.{anchor_sub, assignment, evaluation, flat, flat_anchor, flats_of, form, forms_of, instruction, nest_left, nest_statement, sub, subs};
+ghost use Rattle.part_steps.specs.Agreement.{agree_at, agree_on, agree_on_anchor_sub, agree_on_assignment, agree_on_beside, agree_on_evaluation, agree_on_flat, agree_on_flats, agree_on_form, agree_on_forms, agree_on_left, agree_on_nest, agree_on_sub, agree_on_subs};
 
 use node_code::{
-    ArrayForm, Assignment, Evaluation, Flat, Instruction, NestLeft, NestStatement, Sub,
+    AnchorSub, ArrayForm, Assignment, Evaluation, Flat, FlatAnchor, Instruction, NestLeft,
+    NestStatement, Sub,
 };
 use slot_values::slot;
 
@@ -32,6 +34,7 @@ fn assignment_agrees(p: &Assignment, kept: &[i64], slots: &[i64]) -> bool
     subs_agree(&p.over, kept, slots)
         & subs_agree(&p.left, kept, slots)
         & form_agrees(&p.right, kept, slots)
+        & beside_agrees(&p.beside, kept, slots)
 }
 
 /// Those of a statement of a nest.
@@ -41,6 +44,7 @@ fn nest_agrees(p: &NestStatement, kept: &[i64], slots: &[i64]) -> bool
     subs_agree(&p.over, kept, slots)
         & left_agrees(&p.left, kept, slots)
         & form_agrees(&p.right, kept, slots)
+        & beside_agrees(&p.beside, kept, slots)
 }
 
 /// Those of what is assigned in an iteration of a nest.
@@ -57,7 +61,43 @@ fn left_agrees(left: &NestLeft, kept: &[i64], slots: &[i64]) -> bool
 fn evaluation_agrees(p: &Evaluation, kept: &[i64], slots: &[i64]) -> bool
     ensures { result ≡ agree_on_evaluation kept.now slots.now (evaluation p.now) }
 {
-    subs_agree(&p.over, kept, slots) & form_agrees(&p.form, kept, slots)
+    subs_agree(&p.over, kept, slots)
+        & form_agrees(&p.form, kept, slots)
+        & beside_agrees(&p.beside, kept, slots)
+}
+
+/// Those of what copies lie beside.
+fn beside_agrees(beside: &Option<FlatAnchor>, kept: &[i64], slots: &[i64]) -> bool
+    ensures { result ≡ agree_on_beside kept.now slots.now (option_map flat_anchor beside.now) }
+{
+    match beside {
+        Some(a) => anchor_subs_agree(&a.subscripts, kept, slots),
+        None => true,
+    }
+}
+
+/// Those of its subscripts.
+fn anchor_subs_agree(subs: &[AnchorSub], kept: &[i64], slots: &[i64]) -> bool
+    ensures { result ≡ list_all (agree_on_anchor_sub kept.now slots.now) (map anchor_sub subs.now) }
+{
+    for sub in subs {
+        if !anchor_sub_agrees(sub, kept, slots) {
+            return false;
+        }
+    }
+    true
+}
+
+/// Those of one of them.
+fn anchor_sub_agrees(sub: &AnchorSub, kept: &[i64], slots: &[i64]) -> bool
+    ensures { result ≡ agree_on_anchor_sub kept.now slots.now (anchor_sub sub.now) }
+{
+    match sub {
+        AnchorSub::At(f) => flat_agrees(f, kept, slots),
+        AnchorSub::Along(first, stride) => {
+            flat_agrees(first, kept, slots) & flat_agrees(stride, kept, slots)
+        }
+    }
 }
 
 /// Those of a form.

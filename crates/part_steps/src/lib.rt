@@ -9,7 +9,7 @@
 //! values are asked of the tuples alone that the node computes; all values are taken before any is stored, so that want of
 //! memory leaves a node as it was; what is stored at last takes no memory. What a node exchanges for an instruction is kept from one run of
 //! it to the next (`KeptExchanges`): it depends on the slots that the instruction mentions and on no others, so where these are the same and
-//! the rows lie alike, it is the same.
+//! the rows lie alike, it is the same. What its copies lie beside counts as mentioned.
 //!
 //! Words of the field: tuples are iterations, and which node computes an iteration is told by the *owner-computes*
 //! rule: in an assignment the owners of the element that is assigned, in a reduction the least owner of the first
@@ -20,7 +20,7 @@
 //! `exchange_of`, `outbox`, `inbox`, `par_values`, `reduce_values`, `section_values`. What it exchanges for an
 //! instruction is what it exchanged before, where the slots agree on all that the instruction mentions and the rows lie
 //! as before; so it may be kept, and what is found is right; that anything is found is never promised: `same_parts`,
-//! `agrees`, `KeptExchanges::keep`, `KeptExchanges::find`.
+//! `agrees`, `KeptExchanges::keep`, `KeptExchanges::find`. By such slots its copies lie beside the same: `same_anchors`.
 #![tactic(auto)]
 
 mod agreement;
@@ -47,7 +47,7 @@ pub use kept_exchanges::KeptExchanges;
 pub use opening::{exchange_of, inbox, outbox};
 pub use parallel::{ParValues, par_values};
 pub use part::Part;
-pub use promises::same_parts;
+pub use promises::{same_anchors, same_parts};
 pub use reductions::{ReduceValues, reduce_values};
 pub use sections::section_values;
 pub use stores::Stores;

@@ -105,8 +105,8 @@ module _ (table : ArrayTable) (count : ℕ) (shapes : List Shape) where
   one-layouts (code.Print items) (suc k) m e h v = ap (take n) (print-layouts _ _ m)
   one-layouts (code.MakeCopy copy p) zero m e h v = take-set n copy m.layouts _ v.0
   one-layouts (code.MakeCopy copy p) (suc k) m e h v = take-set n copy m.layouts _ v.0
-  one-layouts (code.MakeCopies copy over start) zero m e h v = take-set n copy m.layouts _ v.0
-  one-layouts (code.MakeCopies copy over start) (suc k) m e h v = take-set n copy m.layouts _ v.0
+  one-layouts (code.MakeCopies copy over start beside) zero m e h v = take-set n copy m.layouts _ v.0
+  one-layouts (code.MakeCopies copy over start beside) (suc k) m e h v = take-set n copy m.layouts _ v.0
   one-layouts (code.ParNest p) zero m e h v = nest-layouts p.role (record { instruction = code.ParNest p; slots = m.control.slots }) (take n m.layouts) refl
   one-layouts (code.ParNest p) (suc k) m e h v = refl
   one-layouts (code.Remap line new) zero m e h v = take-remapped n (remappings table.maps new) m.layouts

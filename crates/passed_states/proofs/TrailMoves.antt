@@ -17,11 +17,11 @@ module _ (maps : List Mapping) (moves : ℕ → List NewMapping) where
 
   one-moves : (n : ℕ) (i : Instruction) (slots : List ℤ) (line : ℕ) (event : Event) (layouts : List Layout) → IsEvent moves n i slots line event
       → layouts_after maps i layouts ≡ Moved line event layouts
-  one-moves n (Par p) slots line event layouts h = ap (λ e. Moved line e layouts) (sym h.1)
-  one-moves n (ParCopy copy p) slots line event layouts h = ap (λ e. Moved line e layouts) (sym h.1)
+  one-moves n (Par p) slots line event layouts h = ap (λ e. Moved line e layouts) (sym h.1.1)
+  one-moves n (ParCopy copy p) slots line event layouts h = ap (λ e. Moved line e layouts) (sym h.1.1)
   one-moves n (Reduce p r x) slots line event layouts h = ap (λ e. Moved line e layouts) (sym h.1.1)
-  one-moves n (ParForall p) slots line event layouts h = ap (λ e. Moved line e layouts) (sym h.1.3)
-  one-moves n (ParForallCopy copy p) slots line event layouts h = ap (λ e. Moved line e layouts) (sym h.1.2)
+  one-moves n (ParForall p) slots line event layouts h = ap (λ e. Moved line e layouts) (sym h.1.4)
+  one-moves n (ParForallCopy copy p) slots line event layouts h = ap (λ e. Moved line e layouts) (sym h.1.3)
   one-moves n (ParNest p) slots line event layouts h = ap (λ e. Moved line e layouts) (sym h.1.3)
   one-moves n (Remap l new) slots line event layouts h = ap (λ new. remapped (remappings maps new) layouts) h.2 ∙ ap (λ e. Moved line e layouts) (sym h.1)
   one-moves n i slots line event layouts h = absurd h

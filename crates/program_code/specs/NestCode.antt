@@ -1,6 +1,6 @@
 -- Of the claim.
 -- The code of nests of INDEPENDENT loops (HPF 2.0, 5.1): each statement at all iterations, over copies of the scalars that the nest assigns.
-use Rattle.std.specs.Prelude.{ℕ, ◌+◌, ◌*◌, List, [], ◌∷◌, ◌++◌, length, map, pos, Option, Some, None, if◌then◌else◌, unwrap_or}
+use Rattle.std.specs.Prelude.{ℕ, ◌+◌, ◌*◌, List, [], ◌∷◌, ◌++◌, length, map, pos, Option, Some, None, option_map, if◌then◌else◌, unwrap_or}
 use Rattle.op_tables.specs.declared.join.Join.{Join}
 use Rattle.op_tables.specs.declared.join.Join.TheVariants.{Sum}
 use Rattle.op_tables.specs.declared.op.Op.TheVariants as op
@@ -10,10 +10,11 @@ use Rattle.array_meaning.specs.Statements.{Loop, Nest, Block, Done, Then, Statem
 use Rattle.array_meaning.specs.Iterations.{is_in, nest_indices}
 use Rattle.array_meaning.specs.Touches.{assigned_in}
 use Rattle.node_code.specs.Flat.{Flat, Int, Slot, Operated, NoFlat, AndFlat}
+use Rattle.node_code.specs.Anchors.{FlatAnchor}
 use Rattle.node_code.specs.Forms.{Sub, SubAlong}
 use Rattle.node_code.specs.NestStatements.{ElementLeft, CopyLeft}
 use Rattle.node_code.specs.Instructions.{Instruction, Set, Trips}
-use Rattle.program_code.specs.ExpressionCode.{index_flat, index_subs, index_form}
+use Rattle.program_code.specs.ExpressionCode.{index_flat, index_subs, index_form, anchor_code}
 use Rattle.statement_trail.specs.NestKinds.{Kind, kind_of}
 use Rattle.statement_trail.specs.ClosedTerms.{closed_value}
 use Rattle.statement_trail.specs.Assigning.{Assigning, ToScalar, ToElement}
@@ -22,7 +23,7 @@ use Rattle.program_code.specs.NestTexts.{NestText, NestTest}
 use Rattle.program_code.specs.NestInstructions as forms
 use Rattle.program_code.specs.NestInstructions.{FlatBounds, NestBody, NestArms, count_nest, slots_of_nest, nest_instructions}
 use Rattle.statement_trail.specs.NestParts as parts
-use Rattle.statement_trail.specs.NestParts.{among_from, index_in}
+use Rattle.statement_trail.specs.NestParts.{among_from, index_in, nest_anchor}
 use Rattle.statement_trail.specs.NestTerms.{indexed, all_indexed}
 use Rattle.program_code.specs.Places.{conditions_from, place_of, marks_of, finals_of}
 
@@ -194,6 +195,10 @@ indices_code line v target (l ∷ ls) =
 
 -- ---- nests
 
+-- what its copies lie beside
+abbrev pub nest_beside : Nest → Block → Option FlatAnchor
+nest_beside nest body = option_map anchor_code (nest_anchor nest body)
+
 -- how many slots a nest takes from those of the bounds of its outermost loop on
 abbrev pub nest_slots : Nest → Block → ℕ
 nest_slots nest body = 4 * length nest.loops + slots_of_nest (plain body)
@@ -210,7 +215,7 @@ nest_code n line nest body v pc =
     let bounds = inner_bounds line v nest.loops in
     let from : ℕ = pc + length bounds + length nest.loops in
     let over = along v nest.loops in
-    let statements = nest_instructions line over (text_in n nest body) (test_in n nest body) (stored n nest body) (finals n nest body) (plain body)
+    let statements = nest_instructions line over (nest_beside nest body) (text_in n nest body) (test_in n nest body) (stored n nest body) (finals n nest body) (plain body)
     (v + 4 * length nest.loops) from in
     let after : ℕ = from + length statements in
     bounds ++ (trips_code line v after nest.loops ++ (statements ++ indices_code line v (after + 3 * length nest.loops) nest.loops))

@@ -3,8 +3,10 @@
 use Rattle.std.specs.Prelude.{ℕ, zero, suc, ◌+◌, max, List, [], ◌∷◌, ◌++◌, length, pos, Option, Some, None}
 use Rattle.op_tables.specs.declared.op.Op.TheVariants as op
 use Rattle.op_tables.specs.Joins.{unit}
+use Rattle.node_code.specs.declared.nest.NestRole.{NestRole}
 use Rattle.node_code.specs.declared.nest.NestRole.TheVariants.{Assigns, Tests, SetsElse, SetsMark}
 use Rattle.node_code.specs.Flat.{Flat, Int, Slot, Operated, NoFlat, AndFlat}
+use Rattle.node_code.specs.Anchors.{FlatAnchor}
 use Rattle.node_code.specs.Forms.{Sub, FlatForm}
 use Rattle.node_code.specs.Parallel.{When}
 use Rattle.node_code.specs.NestStatements.{NestStatement, CopyLeft}
@@ -66,20 +68,53 @@ abbrev pub whens_of : (stored : ℕ) → List Asked → List When
 whens_of stored [] = []
 whens_of stored (w ∷ ws) = record { copy = stored + w.number; value = w.value } ∷ whens_of stored ws
 
--- over the indices of the nest, under stored conditions
-module _ (over : List Sub) (whens : List When) where
+-- over the indices of the nest, whose copies lie beside this, under stored conditions
+module _ (over : List Sub) (beside : Option FlatAnchor) (whens : List When) where
   abbrev pub assigning : NestText → NestStatement
-  assigning p = record { line = p.line; over = over; whens = whens; copies = p.copies; names = p.names; left = p.left; right = p.right; role = Assigns }
+  assigning p = record {
+    line = p.line;
+    over = over;
+    whens = whens;
+    copies = p.copies;
+    names = p.names;
+    left = p.left;
+    right = p.right;
+    role = Assigns;
+    beside = beside;
+  }
 
   abbrev pub testing : NestTest → (copy : ℕ) → NestStatement
-  testing p copy = record { line = p.line; over = over; whens = whens; copies = p.copies; names = p.names; left = CopyLeft copy; right = p.form; role = Tests }
+  testing p copy = record {
+    line = p.line;
+    over = over;
+    whens = whens;
+    copies = p.copies;
+    names = p.names;
+    left = CopyLeft copy;
+    right = p.form;
+    role = Tests;
+    beside = beside;
+  }
 
-  -- they can't fault, so that they have no line
+  -- a copy becomes 1; this can't fault, so that it has no line
+  abbrev pub setting : NestRole → (copy : ℕ) → NestStatement
+  setting role copy = record {
+    line = 0;
+    over = over;
+    whens = whens;
+    copies = [];
+    names = [];
+    left = CopyLeft copy;
+    right = FlatForm (Int (pos 1));
+    role = role;
+    beside = beside;
+  }
+
   abbrev pub setting_else : (copy : ℕ) → NestStatement
-  setting_else copy = record { line = 0; over = over; whens = whens; copies = []; names = []; left = CopyLeft copy; right = FlatForm (Int (pos 1)); role = SetsElse }
+  setting_else = setting SetsElse
 
   abbrev pub setting_mark : (copy : ℕ) → NestStatement
-  setting_mark copy = record { line = 0; over = over; whens = whens; copies = []; names = []; left = CopyLeft copy; right = FlatForm (Int (pos 1)); role = SetsMark }
+  setting_mark = setting SetsMark
 
 -- ---- the code
 
@@ -110,11 +145,11 @@ module _ (line : ℕ) where
   finals_instructions [] = []
   finals_instructions (f ∷ fs) = final_instruction f ∷ finals_instructions fs
 
-  module _ (over : List Sub) where
+  module _ (over : List Sub) (beside : Option FlatAnchor) where
     -- the copies at the entry: a REDUCTION variable's begin with the unit, any other scalar's with its value, and no mark is set
     abbrev pub final_makes : Final → List Instruction
-    final_makes (Folds j r x) = MakeCopies r over (Int (unit j)) ∷ []
-    final_makes (Lasts r q x) = MakeCopies r over (Slot x) ∷ MakeCopies q over (Int (pos 0)) ∷ []
+    final_makes (Folds j r x) = MakeCopies r over (Int (unit j)) beside ∷ []
+    final_makes (Lasts r q x) = MakeCopies r over (Slot x) beside ∷ MakeCopies q over (Int (pos 0)) beside ∷ []
 
     abbrev pub finals_makes : List Final → List Instruction
     finals_makes [] = []
@@ -123,21 +158,21 @@ module _ (line : ℕ) where
     -- and no condition holds
     abbrev pub conditions_makes : (stored count : ℕ) → List Instruction
     conditions_makes stored zero = []
-    conditions_makes stored (suc count) = conditions_makes stored count ++ MakeCopies (stored + count) over (Int (pos 0)) ∷ []
+    conditions_makes stored (suc count) = conditions_makes stored count ++ MakeCopies (stored + count) over (Int (pos 0)) beside ∷ []
 
     module _ {A C : Type 0} (text_of : A → NestText) (test_of : C → NestTest) (stored : ℕ) where
       abbrev pub mark_instructions : Option ℕ → Option ℕ → List Instruction
       mark_instructions guard None = []
-      mark_instructions guard (Some r) = ParNest (setting_mark over (whens_of stored (guard_asked guard)) r) ∷ []
+      mark_instructions guard (Some r) = ParNest (setting_mark over beside (whens_of stored (guard_asked guard)) r) ∷ []
 
       -- an assignment, and then its mark under the same guard
       abbrev pub text_instructions : Option ℕ → A → List Instruction
-      text_instructions guard a = ParNest (assigning over (whens_of stored (guard_asked guard)) (text_of a)) ∷ mark_instructions guard (text_of a).mark
+      text_instructions guard a = ParNest (assigning over beside (whens_of stored (guard_asked guard)) (text_of a)) ∷ mark_instructions guard (text_of a).mark
 
       -- an arm's condition; ELSE's holds where no earlier one does
       abbrev pub test_instruction : List Asked → Option C → (copy : ℕ) → Instruction
-      test_instruction asked None copy = ParNest (setting_else over (whens_of stored asked) copy)
-      test_instruction asked (Some c) copy = ParNest (testing over (whens_of stored asked) (test_of c) copy)
+      test_instruction asked None copy = ParNest (setting_else over beside (whens_of stored asked) copy)
+      test_instruction asked (Some c) copy = ParNest (testing over beside (whens_of stored asked) (test_of c) copy)
 
       abbrev mutual
         -- a body under a guard, with conditions numbered from k on and slots from b on, at a place
@@ -156,7 +191,7 @@ module _ (line : ℕ) where
         arms_instructions NoArm guard earlier k b pc = []
         arms_instructions (AndArm test body others) guard earlier k b pc =
             let c = body_instructions body (Some k) (k + 1) b (pc + 2) in
-            MakeCopies (stored + k) over (Int (pos 0)) ∷ test_instruction (tested_asked guard earlier) test (stored + k)
+            MakeCopies (stored + k) over (Int (pos 0)) beside ∷ test_instruction (tested_asked guard earlier) test (stored + k)
             ∷ (c ++ arms_instructions others guard (k ∷ earlier) (k + 1 + count_nest body) b (pc + 2 + length c))
 
       -- the whole nest at a place, after its bounds and its check

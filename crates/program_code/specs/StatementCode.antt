@@ -6,12 +6,14 @@ use Rattle.array_meaning.specs.Terms.{Term, Scalar, list_of, SectionSubscripts, 
 use Rattle.array_meaning.specs.Statements as statements
 use Rattle.array_meaning.specs.Statements.{Item, Text, Value, Elements, SectionAssignment, ElementAssignment, Loop, Mark, Unmarked, Outermost, Block, Done, Then, Statement, AssignScalar, AssignElement, AssignSection, If, Do, Where, Forall, Stop, Exit, Cycle, Continue, Redistribute, Arms, NoArm, Arm}
 use Rattle.array_meaning.specs.Forall.{all_subscripts}
+use Rattle.statement_trail.specs.Anchors.{forall_anchor, where_anchor}
 use Rattle.node_code.specs.Flat.{Int, Slot, Operated, NoFlat, AndFlat}
 use Rattle.node_code.specs.Forms.{Sub, SectionForm}
+use Rattle.node_code.specs.Anchors.{FlatAnchor}
 use Rattle.node_code.specs.Parallel.{When, Assignment, Evaluation}
 use Rattle.node_code.specs.Instructions.{NewMapping, PrintItem, PrintBytes, PrintNumber, PrintSection, Instruction, Set, Store, TestBounds, TestStride, Trips, Jump, JumpIfZero, Halt, Limits, OwnLimits, ForallLimits, OneToOne, Check, Par, ParForall, MakeCopy, ParCopy, ParForallCopy, Verdict, Inside, Print, Remap}
 use Rattle.program_code.specs.NestCode.{nest_rows, nest_slots, nest_code}
-use Rattle.program_code.specs.ExpressionCode.{slots_of, all_slots_of, subscripts_slots, parts_slots, flat_of, flats_of, subs_of, form_of, code_of, codes_of, subscripts_code, parts_code, control_slots, control_code, own_evaluation, index_flat, index_subs, index_form}
+use Rattle.program_code.specs.ExpressionCode.{slots_of, all_slots_of, subscripts_slots, parts_slots, flat_of, flats_of, subs_of, form_of, code_of, codes_of, subscripts_code, parts_code, control_slots, control_code, copied_evaluation, own_evaluation, index_flat, index_subs, index_form, anchor_code}
 
 -- ---- PRINT
 
@@ -74,21 +76,32 @@ arm_code line pc b condition body rest =
 
 -- ---- array assignment and WHERE
 
+-- under a mask: over which space, at which of its tuples, and what the copy of the mask lies beside
+pub record Masking : Type 0 where
+  pub over : List Sub
+  pub when : When
+  pub beside : Option FlatAnchor
+
 -- over its left side's own space, or over that of a mask
-abbrev pub assignment : ℕ → ℕ → ℕ → SectionSubscripts → Term → Option (List Sub × When) → Assignment
+abbrev pub assignment : ℕ → ℕ → ℕ → SectionSubscripts → Term → Option Masking → Assignment
 assignment line b a subs t mask = record {
   line = line;
   array = a;
   left = subs_of b subs;
   right = form_of (b + subscripts_slots subs) t;
   over = space_of mask;
-  mask = option_map (λ m. m.1) mask;
+  mask = option_map (λ m. m.when) mask;
+  beside = beside_of mask;
 } where
-  space_of : Option (List Sub × When) → List Sub
+  space_of : Option Masking → List Sub
   space_of None = subs_of b subs
-  space_of (Some m) = m.0
+  space_of (Some m) = m.over
 
-abbrev pub assignment_code : ℕ → ℕ → ℕ → SectionSubscripts → Term → Option (List Sub × When) → List Instruction
+  beside_of : Option Masking → Option FlatAnchor
+  beside_of None = None
+  beside_of (Some m) = m.beside
+
+abbrev pub assignment_code : ℕ → ℕ → ℕ → SectionSubscripts → Term → Option Masking → List Instruction
 assignment_code line b a subs t mask =
     let p = assignment line b a subs t mask in
     subscripts_code line b subs ++ (parts_code line (b + subscripts_slots subs) t ++ Limits p ∷ Par p ∷ Verdict ∷ [])
@@ -98,21 +111,24 @@ abbrev pub masked_slots : List SectionAssignment → ℕ
 masked_slots [] = 0
 masked_slots (x ∷ xs) = max (subscripts_slots x.subscripts + parts_slots x.right) (masked_slots xs)
 
-abbrev pub masked_code : ℕ → List Sub × When → List SectionAssignment → List Instruction
+abbrev pub masked_code : ℕ → Masking → List SectionAssignment → List Instruction
 masked_code b m [] = []
 masked_code b m (x ∷ xs) = assignment_code x.line b x.array x.subscripts x.right (Some m) ++ masked_code b m xs
 
 abbrev pub where_true : ℕ → Bool → When
 where_true copy value = record { copy = copy; value = value }
 
+-- what the mask's copy lies beside
+abbrev pub where_beside : List SectionAssignment → Option FlatAnchor
+where_beside assignments = option_map anchor_code (where_anchor assignments)
+
 -- the values of the mask into a copy, and then each assignment where they are true, or, after ELSEWHERE, where they are false
 abbrev pub where_code : ℕ → ℕ → ℕ → Term → List SectionAssignment → List SectionAssignment → List Instruction
 where_code copy line b mask body others =
-    let p : Evaluation = own_evaluation line (form_of b mask) in
+    let p : Evaluation = copied_evaluation line (form_of b mask) (where_beside (body ++ others)) in
     let b1 : ℕ = b + parts_slots mask in
-    parts_code line b mask
-    ++ OwnLimits p ∷ MakeCopy copy p ∷ ParCopy copy p ∷ Verdict
-    ∷ (masked_code b1 (p.over, where_true copy true) body ++ masked_code b1 (p.over, where_true copy false) others)
+    let masking : Bool → Masking = λ value. record { over = p.over; when = where_true copy value; beside = p.beside } in
+    parts_code line b mask ++ OwnLimits p ∷ MakeCopy copy p ∷ ParCopy copy p ∷ Verdict ∷ (masked_code b1 (masking true) body ++ masked_code b1 (masking false) others)
 
 -- ---- FORALL
 
@@ -125,34 +141,42 @@ abbrev pub one_to_one_code : List Sub → List ElementAssignment → List Instru
 one_to_one_code over [] = []
 one_to_one_code over (x ∷ xs) = OneToOne x.line over (map index_flat (list_of x.subscripts)) ∷ one_to_one_code over xs
 
-abbrev pub forall_mask_code : ℕ → ℕ → List Sub → Option Term → List Instruction
-forall_mask_code copy line over None = []
-forall_mask_code copy line over (Some t) =
-    let p : Evaluation = record { line = line; form = index_form t; over = over } in MakeCopy copy p ∷ ParForallCopy copy p ∷ Verdict ∷ []
+-- what the mask's copy lies beside
+abbrev pub forall_beside : List ElementAssignment → Option FlatAnchor
+forall_beside assignments = option_map anchor_code (forall_anchor assignments)
 
-abbrev pub forall_assignment : List Sub → Option When → ElementAssignment → Assignment
-forall_assignment over mask x = record {
+abbrev pub forall_mask_code : ℕ → ℕ → List Sub → Option FlatAnchor → Option Term → List Instruction
+forall_mask_code copy line over beside None = []
+forall_mask_code copy line over beside (Some t) =
+    let p : Evaluation = record { line = line; form = index_form t; over = over; beside = beside } in
+    MakeCopy copy p ∷ ParForallCopy copy p ∷ Verdict ∷ []
+
+abbrev pub forall_assignment : List Sub → Option When → Option FlatAnchor → ElementAssignment → Assignment
+forall_assignment over mask beside x = record {
   line = x.line;
   array = x.array;
   left = index_subs x.subscripts;
   right = index_form x.right;
   over = over;
   mask = mask;
+  beside = beside;
 }
 
-abbrev pub forall_assignments_code : List Sub → Option When → List ElementAssignment → List Instruction
-forall_assignments_code over mask [] = []
-forall_assignments_code over mask (x ∷ xs) = ParForall (forall_assignment over mask x) ∷ Verdict ∷ forall_assignments_code over mask xs
+abbrev pub forall_assignments_code : List Sub → Option When → Option FlatAnchor → List ElementAssignment → List Instruction
+forall_assignments_code over mask beside [] = []
+forall_assignments_code over mask beside (x ∷ xs) =
+    ParForall (forall_assignment over mask beside x) ∷ Verdict ∷ forall_assignments_code over mask beside xs
 
 -- the header, the limits, the values of the mask into a copy, and the assignments one after another; over an empty space none of these
 -- does anything but the header
 abbrev pub forall_code : ℕ → ℕ → ℕ → List Control → Option Term → List ElementAssignment → List Instruction
 forall_code copy line b controls mask body =
     let over = subs_of b (triplets controls) in
+    let beside = forall_beside body in
     subscripts_code line b (triplets controls)
     ++ ForallLimits line over (map index_flat (all_subscripts mask body))
     ∷ (one_to_one_code over body
-    ++ (forall_mask_code copy line over mask ++ forall_assignments_code over (option_map (λ t. where_true copy true) mask) body))
+    ++ (forall_mask_code copy line over beside mask ++ forall_assignments_code over (option_map (λ t. where_true copy true) mask) beside body))
 
 -- ---- nests of INDEPENDENT loops
 

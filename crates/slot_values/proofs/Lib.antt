@@ -1,3 +1,4 @@
+pub mod AnchorSteps
 pub mod Begun
 pub mod CopyExtents
 pub mod ForallTests

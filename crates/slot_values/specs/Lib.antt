@@ -1,3 +1,4 @@
+pub mod Anchors
 pub mod Controls
 pub mod Elements
 pub mod KeptFaults

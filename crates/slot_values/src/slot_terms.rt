@@ -27,7 +27,7 @@ pub(crate) fn slots_state(alloc: Global, slots: &[i64]) -> Result<State, AllocEr
 
 /// The term of an expression.
 #[cycle(term)]
-fn term(alloc: Global, f: &Flat) -> Result<Term, AllocError>
+pub(crate) fn term(alloc: Global, f: &Flat) -> Result<Term, AllocError>
     ensures { IfOk result (λ t. term t ≡ term_of (flat f.now)) }
 {
     match f {

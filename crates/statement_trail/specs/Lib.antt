@@ -1,3 +1,4 @@
+pub mod Anchors
 pub mod NestParts
 pub mod Trail
 pub use Rattle.nest_syntax.specs.NestKinds
@@ -6,3 +7,4 @@ pub use Rattle.nest_syntax.specs.Assigning
 pub use Rattle.nest_syntax.specs.Finals
 pub use Rattle.nest_syntax.specs.NestTerms
 pub use Rattle.nest_syntax.specs.Asked
+pub use Rattle.nest_syntax.specs.LinearOperators

@@ -8,14 +8,16 @@ use Rattle.nest_syntax.specs.State.{State, set_scalar}
 use Rattle.nest_syntax.specs.Sequence.{Sequence}
 use Rattle.nest_syntax.specs.Iterations.{is_in, values_of, nest_axes, nest_indices, turn_value}
 use Rattle.nest_syntax.specs.Touches.{assigned_in}
+use Rattle.statement_trail.specs.Anchors.{AnchorText, block_anchor}
 
--- A nest that is entered: its indices, the innermost loop's first, and the values that they take; the scalars that it assigns, as declared; and how many
--- conditions are stored
+-- A nest that is entered: its indices, the innermost loop's first, and the values that they take; the scalars that it assigns, as declared; how many
+-- conditions are stored; and what its copies lie beside
 pub record EnteredNest : Type 0 where
   pub indices : List ℕ
   pub axes : List Sequence
   pub assigned : List ℕ
   pub conditions : ℕ
+  pub beside : Option AnchorText
 
 -- an assignment to a scalar, or to an element of an array; or a condition that is stored under a number: that of an arm, or, for ELSE, that it is reached
 pub data NestPart : Type 0 where
@@ -116,10 +118,15 @@ condition_copy nest k = length nest.assigned + k
 
 -- ---- at the entry
 
+-- what the copies of a nest lie beside, by its text
+abbrev pub nest_anchor : Nest → Block → Option AnchorText
+nest_anchor nest body = block_anchor (index_in (nest_indices nest) 0) body
+
 abbrev pub entered_nest : Nest → Block → State → EnteredNest
 entered_nest nest body s = record {
   indices = nest_indices nest;
   axes = nest_axes s nest;
   assigned = among_from (assigned_in body) 0 (length s.scalars);
   conditions = conditions_in body;
+  beside = nest_anchor nest body;
 }

@@ -25,18 +25,19 @@ use Rattle.nest_syntax.specs.Iterations.{values_of, iteration_count, in_turns}
 use Rattle.nest_syntax.specs.NestEntry.{entered}
 use Rattle.nest_syntax.specs.Execution.{condition, item_bytes, run, run_block}
 use Rattle.nest_syntax.specs.Resolution.{resolved_block, initial_state}
+use Rattle.statement_trail.specs.Anchors.{AnchorText, forall_anchor, where_anchor}
 use Rattle.statement_trail.specs.NestParts.{EnteredNest, NestPart, ScalarPart, ElementPart, ConditionPart, has_statement, conditions_in, conditions_by, in_trip, indices_after, indices_by, entered_nest}
 use Rattle.nest_syntax.specs.Asked.{Asked, guard_asked, tested_asked}
 
 pub data Event : Type 0 where
-  -- an assignment to a section: whether a mask is over it, the extents of its space, its left side and its right side
-  SectionAssigned : (masked : Bool) → List ℕ → (array : ℕ) → List Selection → Elemental → Event
-  -- the mask of a WHERE, and the argument of a reduction, each with the extents of its space
-  WhereMask : List ℕ → Elemental → Event
+  -- an assignment to a section: whether a mask is over it and what its copy lies beside, the extents of its space, its left side and its right side
+  SectionAssigned : (masked : Bool) → (beside : Option AnchorText) → List ℕ → (array : ℕ) → List Selection → Elemental → Event
+  -- the mask of a WHERE, with what its copy lies beside, and the argument of a reduction, each with the extents of its space
+  WhereMask : (beside : Option AnchorText) → List ℕ → Elemental → Event
   Reduced : Op → List ℕ → Elemental → Event
-  -- the mask of a FORALL, and one of its assignments, each with the values of the indices
-  ForallMask : List Sequence → Term → Event
-  ElementsAssigned : (masked : Bool) → List Sequence → (array : ℕ) → Terms → Term → Event
+  -- the mask of a FORALL, and one of its assignments, each with what the mask's copy lies beside and with the values of the indices
+  ForallMask : (beside : Option AnchorText) → List Sequence → Term → Event
+  ElementsAssigned : (masked : Bool) → (beside : Option AnchorText) → List Sequence → (array : ℕ) → Terms → Term → Event
   -- a part of a nest, at the iterations at which these stored conditions are as asked for
   OfNest : EnteredNest → List Asked → NestPart → Event
   Redistributed : Event
@@ -114,33 +115,35 @@ all_controls_trail line s (c ∷ cs) = control_trail line s c ++ after_value (in
 -- ---- array statements
 
 -- an assignment over the space of its mask, or of its left side where it has none
-abbrev pub section_trail : Option (List ℕ) → ℕ → ℕ → SectionSubscripts → Term → State → Trail
-section_trail mask_extents line a subs right s =
+abbrev pub section_trail : Option (List ℕ) → Option AnchorText → ℕ → ℕ → SectionSubscripts → Term → State → Trail
+section_trail mask_extents beside line a subs right s =
     selections_trail line s subs ++ after_value (selections [] s subs) (λ ds.
     elemental_trail line s right ++ after_value (elemental [] s right) (λ x.
     let ns = unwrap_or mask_extents (extents ds) in
-    after_value (space_size ns (ds ∷ sections x)) (λ n. reached line s (SectionAssigned (is_some mask_extents) ns a ds x))))
+    after_value (space_size ns (ds ∷ sections x)) (λ n. reached line s (SectionAssigned (is_some mask_extents) beside ns a ds x))))
 
-abbrev pub where_trail : List ℕ → Mask → List SectionAssignment → State → Trail
-where_trail ns mask [] s = []
-where_trail ns mask (b ∷ bs) s =
-    section_trail (Some ns) b.line b.array b.subscripts b.right s ++ after_run (one_step b.line s (assign_where ns mask b s)) (where_trail ns mask bs)
+abbrev pub where_trail : List ℕ → Mask → Option AnchorText → List SectionAssignment → State → Trail
+where_trail ns mask beside [] s = []
+where_trail ns mask beside (b ∷ bs) s =
+    section_trail (Some ns) beside b.line b.array b.subscripts b.right s
+    ++ after_run (one_step b.line s (assign_where ns mask b s)) (where_trail ns mask beside bs)
 
-abbrev pub forall_trail : Bool → List Sequence → ℕ → Mask → List ElementAssignment → State → Trail
-forall_trail masked axes n mask [] s = []
-forall_trail masked axes n mask (b ∷ bs) s =
-    reached b.line s (ElementsAssigned masked axes b.array b.subscripts b.right)
-    ++ after_run (one_step b.line s (assign_forall axes n mask b s)) (forall_trail masked axes n mask bs)
+abbrev pub forall_trail : Bool → Option AnchorText → List Sequence → ℕ → Mask → List ElementAssignment → State → Trail
+forall_trail masked beside axes n mask [] s = []
+forall_trail masked beside axes n mask (b ∷ bs) s =
+    reached b.line s (ElementsAssigned masked beside axes b.array b.subscripts b.right)
+    ++ after_run (one_step b.line s (assign_forall axes n mask b s)) (forall_trail masked beside axes n mask bs)
 
-abbrev pub forall_mask_trail : ℕ → State → List Sequence → Option Term → Trail
-forall_mask_trail line s axes None = []
-forall_mask_trail line s axes (Some t) = reached line s (ForallMask axes t)
+abbrev pub forall_mask_trail : ℕ → State → Option AnchorText → List Sequence → Option Term → Trail
+forall_mask_trail line s beside axes None = []
+forall_mask_trail line s beside axes (Some t) = reached line s (ForallMask beside axes t)
 
 -- the parts of a FORALL whose conditions hold
 abbrev pub forall_parts_trail : ℕ → List Sequence → Option Term → List ElementAssignment → State → Trail
 forall_parts_trail line axes mask body s =
     let n = product (index_extents axes) in
-    forall_mask_trail line s axes mask ++ after_value (mask_over s axes n mask) (λ m. forall_trail (is_some mask) axes n m body s)
+    let beside = forall_anchor body in
+    forall_mask_trail line s beside axes mask ++ after_value (mask_over s axes n mask) (λ m. forall_trail (is_some mask) beside axes n m body s)
 
 -- a condition of a FORALL, which one over an empty space doesn't have; its parts have no tuples, and are reached as others
 abbrev pub if_not_empty : ℕ → State → Run → Run
@@ -215,7 +218,7 @@ abbrev mutual
   pub trail : Statement → ℕ → State → Trail
   trail (AssignScalar k right) line s = value_trail line s right
   trail (AssignElement a ts right) line s = values_trail line s ts ++ after_value (values [] s ts >>= place_in s a) (λ k. value_trail line s right)
-  trail (AssignSection a subs right) line s = section_trail None line a subs right s
+  trail (AssignSection a subs right) line s = section_trail None None line a subs right s
   trail (If arms other) line s = arms_trail arms (block_trail other) s
   trail (Do mark loop body) line s =
       control_trail line s loop.control
@@ -223,9 +226,10 @@ abbrev mutual
       after_value (entered mark s) (marked_trail mark (iterate_trail p.count loop.index p.first p.step (run_block body) (block_trail body))))
   trail (Where mask body others) line s =
       elemental_trail line s mask ++ after_value (elemental [] s mask) (λ x.
-      over_own_space line s x WhereMask ++ after_value (array_value s x) (λ m.
-      where_trail m.extents (mask_of m.elements) body s
-      ++ after_run (assign_all_where m.extents (mask_of m.elements) body s) (where_trail m.extents (negated_mask m.elements) others)))
+      let beside = where_anchor (body ++ others) in
+      over_own_space line s x (WhereMask beside) ++ after_value (array_value s x) (λ m.
+      where_trail m.extents (mask_of m.elements) beside body s
+      ++ after_run (assign_all_where m.extents (mask_of m.elements) body s) (where_trail m.extents (negated_mask m.elements) beside others)))
   trail (Forall controls mask body) line s =
       all_controls_trail line s controls ++ after_value (all_index_values s controls) (λ axes.
       let n = product (index_extents axes) in

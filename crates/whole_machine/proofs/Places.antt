@@ -58,7 +58,7 @@ module _ (nodes : ℕ) (maps : List Mapping) (shapes : List (List Dim)) where
   local-is (Par p) is = cc
   local-is (ParForall p) is = cc
   local-is (ParNest p) is = cc
-  local-is (MakeCopies copy over start) is = cc
+  local-is (MakeCopies copy over start beside) is = cc
   local-is (MakeCopy copy p) is = cc
   local-is (ParCopy copy p) is = cc
   local-is (ParForallCopy copy p) is = cc

@@ -88,9 +88,12 @@ impl WholeMachine {
             Instruction::Par(p) => self.par(shapes, Parallel::Assignment(p)),
             Instruction::ParForall(p) => self.par(shapes, Parallel::Forall(p)),
             Instruction::ParNest(p) => self.par(shapes, Parallel::Nest(p)),
-            Instruction::MakeCopies { copy, over, start } => {
-                self.make_copies(program.nodes, *copy, over, start)
-            }
+            Instruction::MakeCopies {
+                copy,
+                over,
+                start,
+                beside,
+            } => self.make_copies(program.nodes, *copy, over, start, beside),
             Instruction::MakeCopy { copy, evaluation } => {
                 self.make_copy(program.nodes, *copy, evaluation)
             }

@@ -39,3 +39,11 @@ returns-clause-nest c = refl
 pub returns-clause-condition : goal.returns-clause-condition
 unfolding int_wrap size_of owned_by digits
 returns-clause-condition c = refl
+
+pub returns-clause-apart : goal.returns-clause-apart
+unfolding int_wrap size_of owned_by digits
+returns-clause-apart c = refl
+
+pub returns-clause-alone : goal.returns-clause-alone
+unfolding int_wrap size_of owned_by digits
+returns-clause-alone c = refl

@@ -34,6 +34,7 @@ returns c = λ n line are.
       marks_are = are.marks_are;
       indices_are = are.indices_are;
       over_is = are.over_is;
+      beside_is = are.beside_is;
     } in
     nest_is n w.line nest (block_of c.args.inside.now.items) v c.args.pc w (length indices) c.in_ok-from.from c.in_ok-free.free after end
     (instructions bounds) trips (instructions statements) last (instructions c.add_round.new.code.items) own

@@ -9,7 +9,7 @@ use Rattle.node_code.specs.Instructions.{ParNest}
 use Rattle.node_code.specs.NestStatements.{ElementLeft}
 use Rattle.node_code.specs.Texts.{instructions}
 use Rattle.resolved_program.specs.Resolved.{terms_of}
-use Rattle.node_codegen.specs.NestNames.{over_by}
+use Rattle.node_codegen.specs.NestNames.{beside_by, over_by}
 use Rattle.node_codegen.proofs.nest_statements.element_text.Goals as goal
 
 pub returns : goal.returns
@@ -28,5 +28,6 @@ returns c =
       left = ElementLeft c.args.a (subscripts i);
       right = value.form i;
       role = Assigns;
+      beside = beside_by w;
     }))))
     c.only.ensures

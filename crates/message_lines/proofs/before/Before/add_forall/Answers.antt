@@ -6,7 +6,7 @@ use Rattle.part_steps.specs.declared.who.Who.TheVariants.{Left}
 use Rattle.part_steps.proofs.Instructions.{par-is}
 use Rattle.tuple_values.specs.Statements.{IsStatement}
 use Rattle.tuple_values.specs.Views.{statement as statement_of}
-use Rattle.message_lines.specs.Before.{copy_layouts, setting_before}
+use Rattle.message_lines.specs.Before.{layouts_beside, setting_before}
 use Rattle.message_lines.proofs.PartLaws.{rows-lines}
 use Rattle.message_lines.proofs.before.Before.add_forall.Goals as goal
 
@@ -15,9 +15,9 @@ returns c =
     let b = c.args.self.now in
     let p = assignment c.args.p.now in
     let shapes = b.program.now.shapes.items in
-    let layouts = copy_layouts b (subs c.args.p.now.over.items) in
+    let layouts = layouts_beside b p.beside (subs c.args.p.now.over.items) in
     let w = statement_of c.in_ok-statement.statement in
-    let owned = c.in_ok-rows.ensures.owners ∙ (λ i. record { layouts = copy_layouts b (subs (c.deref.ensures.value i)); nodes = b.owners.now.nodes }) in
+    let owned = c.in_ok-rows.ensures.owners ∙ (λ i. record { layouts = layouts_beside b p.beside (subs (c.deref.ensures.value i)); nodes = b.owners.now.nodes }) in
     let is = subst (λ (ds : List (List Dim)). IsStatement w b.slots.now (forall_tuples ds p) (forall_spot ds p)) c.deref-2.ensures.value c.in_ok-statement.ensures in
     subst (λ (lines : List ℕ). OnOk c.add_part.result (c.add_part.new.text.items ≡ c.args.text.now.items ++ lines))
     (rows-lines c.in_ok-rows.rows (setting_before b) layouts b.names.now refl c.in_ok-rows.ensures.names owned c.in_ok-rows.ensures.copies c.in_ok-rows.ensures.copied Left w c.args.p.now.line _

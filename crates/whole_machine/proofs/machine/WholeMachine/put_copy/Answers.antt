@@ -1,10 +1,10 @@
-use Rattle.std.proofs.Common.{◌≡◌, SFits, w64, replicate, slice_set, sym, ◌∙◌, ap, subst, rules}
+use Rattle.std.proofs.Common.{◌≡◌, SFits, w64, option_copied, replicate, slice_set, sym, ◌∙◌, ap, subst, rules}
 use Rattle.std.proofs.lemmas.Int.{to_z-of_z}
 use Rattle.std.specs.Arc.{arc_value}
-use Rattle.machine_steps.specs.CopyLayout.{layout_of}
 use Rattle.machine_steps.specs.Instr.{MakeCopy}
 use Rattle.machine_steps.specs.Layout.{size_of}
 use Rattle.machine_steps.specs.Machine.{instr_at, on}
+use Rattle.code_meaning.specs.Beside.{aligned_layout_of}
 use Rattle.code_meaning.specs.ProgramText.{text_meaning}
 use Rattle.owner_tables.specs.Views.{OwnersView}
 use Rattle.node_program.specs.Fits.{FitsRows}
@@ -20,11 +20,13 @@ returns-clause-ok c =
     let is = c.self.view_is in
     let p = arc_value k.program in
     let copy = c.args.copy in
+    let anchor = option_copied c.args.anchor in
     let extents = c.args.extents.now in
     let here = subst (λ a. IsFor a.code a.control.at c.args.nodes) (sym is) c.requires.nodes in
     let same : k.owners.nodes ≡ c.args.nodes =
     c.self.invariant.nodes ∙ nodes-are p.nodes (mappings_of p.tables.items) p.shapes.items p.code.items k.control.at c.args.nodes here in
-    let lies : c.in_ok-table.table.layout ≡ layout_of c.args.nodes extents = ap (λ t. t.layout) c.in_ok-table.ensures ∙ ap (λ n. layout_of n extents) same in
+    let lies : c.in_ok-table.table.layout ≡ aligned_layout_of c.args.nodes c.args.self.now.layouts anchor extents =
+    ap (λ t. t.layout) c.in_ok-table.ensures ∙ (λ i. aligned_layout_of (same i) ((is i).layouts) anchor extents) in
     let fits : SFits w64 c.args.value.now = search rules in
     let values = c.in_ok-values.ensures ∙ (λ i. replicate ((c.size.ensures ∙ ap size_of lies) i) (to_z-of_z w64 c.args.value.now fits i)) in
     let rows = c.set_row.ensures ∙ (λ i. slice_set ((is i).rows) copy (values i)) in

@@ -1,0 +1,3 @@
+mod Wrapped
+mod Forms
+mod Positions
