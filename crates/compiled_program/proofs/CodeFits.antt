@@ -6,7 +6,7 @@ use Rattle.std.specs.List.{list_all, slice_get}
 use Rattle.hpf_base.specs.declared.index.Shape.{Shape}
 use Rattle.hpf_base.specs.declared.limits.TheConstants.{MAX_RANK}
 use Rattle.array_meaning.specs.Statements as statements
-use Rattle.array_meaning.specs.Statements.{Loop, Nest, Mark, Unmarked, Outermost, Block, Done, Then, Statement, AssignScalar, AssignElement, AssignSection, If, Do, Where, Forall, Stop, Exit, Cycle, Continue, Redistribute, Arms, NoArm, Arm}
+use Rattle.array_meaning.specs.Statements.{Loop, Nest, Mark, Unmarked, Outermost, Block, Done, Then, Statement, AssignScalar, AssignElement, AssignSection, Transform, If, Do, Where, Forall, Stop, Exit, Cycle, Continue, Redistribute, Arms, NoArm, Arm}
 use Rattle.node_code.specs.Anchors.{FlatAnchor}
 use Rattle.node_code.specs.Flat.{Int}
 use Rattle.node_code.specs.Forms.{Sub}
@@ -153,6 +153,7 @@ module _ (table : CodeTable) (none : table.maps ≡ 0) (tables : List TableView)
     statement-follows (AssignScalar k t) line b pc leave again pc' leave' again' = same (statement_code n nothing line (AssignScalar k t) b pc leave again)
     statement-follows (AssignElement a ts t) line b pc leave again pc' leave' again' = same (statement_code n nothing line (AssignElement a ts t) b pc leave again)
     statement-follows (AssignSection a subs t) line b pc leave again pc' leave' again' = same (statement_code n nothing line (AssignSection a subs t) b pc leave again)
+    statement-follows (Transform x y how) line b pc leave again pc' leave' again' = same (statement_code n nothing line (Transform x y how) b pc leave again)
     statement-follows (If arms other) line b pc leave again pc' leave' again' =
         arms-follow arms (λ pc. block_code n nothing other b pc leave again) (λ pc. block_code n moves other b pc leave' again') b pc leave again pc' leave' again'
         (λ pc pc'. block-follows other b pc leave again pc' leave' again')

@@ -191,6 +191,25 @@ right_side_of_scalar : outcome (scalar K (pos 3) ∷ []) (block (
 unfolding int_wrap digits
 right_side_of_scalar = refl
 
+-- The number of places of a shift is evaluated anew in each iteration, and what is shifted is what the one before left.
+-- INTEGER :: A(4), I|A(1) = 1; A(2) = 2|DO I = 1, 2|A = CSHIFT(A, I)|PRINT *, A|END DO|END
+shifts_in_loop : outcome (vector A 4 0 ∷ scalar I (pos 0) ∷ []) (block (
+    set 2 (element_at A (n 1)) (n 1) ∷
+    set 2 (element_at A (n 2)) (n 2) ∷
+    loop 3 (axis I (n 1) (n 2)) (set 4 (variable A) (call op.CShift (v A ∷ v I ∷ [])) ∷ print 5 (v A ∷ []) ∷ []) ∷ []))
+    ≡ finishes (codes "2 0 0 1" ∷ codes "0 1 2 0" ∷ []) (row (0 ∷ 1 ∷ 2 ∷ 0 ∷ []) ∷ [] ∷ [])
+unfolding int_wrap digits
+shifts_in_loop = refl
+
+-- A fault of a shift changes nothing: 1/K is evaluated before an element is moved.
+-- INTEGER :: A(2), K|A(1) = 5|A = CSHIFT(A, 1/K)|END
+fault_of_shift : outcome (vector A 2 0 ∷ scalar K (pos 0) ∷ []) (block (
+    set 2 (element_at A (n 1)) (n 5) ∷
+    set 3 (variable A) (call op.CShift (v A ∷ div (n 1) (v K) ∷ [])) ∷ []))
+    ≡ faults 3 DivZero Nowhere [] (row (5 ∷ 0 ∷ []) ∷ [] ∷ [])
+unfolding int_wrap digits
+fault_of_shift = refl
+
 -- ---- names
 
 -- An empty dimension has the bounds 1 and 0 (13.14.53).

@@ -1,18 +1,19 @@
--- Which parts a run reaches. In the comments a bar stands for the end of a line. All programs declare INTEGER :: A(3) = 2, B(3), K = 1, I.
+-- Which parts a run reaches. In the comments a bar stands for the end of a line. A program without declarations declares INTEGER :: A(3) = 2, B(3), K = 1, I.
 use Rattle.std.specs.Prelude.{◌≡◌, refl, ℕ, List, [], ◌∷◌, pos, negsuc, true, false, Option, Some, None}
 use Rattle.std.specs.Int.{int_wrap}
+use Rattle.op_tables.specs.declared.op.Op.{Op}
 use Rattle.op_tables.specs.declared.op.Op.TheVariants as op
 use Rattle.syntax_tree.specs.Directive.{Cyclic}
 use Rattle.syntax_tree.specs.Expression as e
 use Rattle.syntax_tree.specs.Statement as s
 use Rattle.name_table.specs.declared.names.Entry.{Entry}
-use Rattle.array_meaning.specs.Terms.{Number, Index, Element, Apply, NoTerm, More}
+use Rattle.array_meaning.specs.Terms.{Term, Terms, Number, Index, Element, Apply, NoTerm, More}
 use Rattle.array_meaning.specs.declared.sections.Sequence.{Sequence}
 use Rattle.array_meaning.specs.declared.sections.Selection.TheVariants.{Along}
 use Rattle.array_meaning.specs.Elementals.{Elemental, Same, Selected, Operation, NoOperand, Operand}
 use Rattle.statement_trail.specs.Anchors.{AtTerm, AlongTerms, AnchorText}
 use Rattle.statement_trail.specs.Trail.{Event, TrailEntry, SectionAssigned, WhereMask, Reduced, ForallMask, ElementsAssigned, Redistributed, trail_of}
-use Rattle.computed_programs.proofs.Shorthands.{A, B, I, K, scalar, vector, n, v, minus, add, mul, div, gt, call, range, range_by, variable, variable_at, element_at, assign, axis, at, set, print, block, loop, where_mask, forall_over, forall_masked, sub, element, parts}
+use Rattle.computed_programs.proofs.Shorthands.{A, B, I, K, scalar, vector, n, v, minus, add, mul, div, gt, call, range, range_by, variable, variable_at, element_at, assign, axis, at, set, print, block, loop, where_mask, forall_over, forall_masked, sub, element, parts, array, dim, matrix}
 
 abbrev names : List Entry
 names = vector A 3 2 ∷ vector B 3 0 ∷ scalar K (pos 1) ∷ scalar I (pos 0) ∷ []
@@ -192,6 +193,80 @@ where_to_fault : trail_of names (block (where_mask 2 (gt (v A) (n 1)) (assign 3 
     ∷ []
 unfolding int_wrap
 where_to_fault = refl
+
+-- ---- transformations of whole arrays
+
+-- an operator over two operands, and one of a list of subscripts
+abbrev apply : Op → Term → Term → Term
+apply o t u = Apply o (More t (More u NoTerm))
+
+abbrev each : List Term → Terms
+each [] = NoTerm
+each (t ∷ ts) = More t (each ts)
+
+-- how far an index is above a lower bound
+abbrev above : ℕ → ℕ → Term
+above lower k = apply op.Sub (Index k) (Number (pos lower))
+
+-- 0, or so many, from which on a place is one past the last
+abbrev past : ℕ → Term → Term
+past count t = apply op.Mul (Number (pos count)) (apply op.Ge t (Number (pos count)))
+
+-- A shift is one part, after the reductions of its number, which counts modulo the extent: 4 places are 1. The indices are the target's own subscripts.
+-- A = CSHIFT(B, SUM(A) - 2)|END
+abbrev one_on : Term
+one_on = apply op.Add (above 1 0) (Number (pos 1))
+
+shift_part : trail_of names (block (set 2 (variable A) (call op.CShift (v B ∷ sub (call op.Sum (v A ∷ [])) (n 2) ∷ [])) ∷ []))
+    ≡ reached 2 0 (Reduced op.Sum (3 ∷ []) (all_of 0))
+    ∷ reached 2 0 (ElementsAssigned false None (from_one ∷ []) 0 (each (Index 0 ∷ [])) (Element 1 (each (apply op.Add (apply op.Sub one_on (past 3 one_on)) (Number (pos 1)) ∷ []))))
+    ∷ []
+unfolding int_wrap
+shift_part = refl
+
+-- The dimensions after the first go by the same places, whatever the bounds are.
+-- INTEGER :: A(3,2), B(2:4,0:1)|A = CSHIFT(B, -1)|END
+abbrev two_on : Term
+two_on = apply op.Add (above 1 0) (Number (pos 2))
+
+shift_of_columns : trail_of (matrix A 3 2 0 ∷ array B (dim (pos 2) (pos 4) ∷ dim (pos 0) (pos 1) ∷ []) (pos 0) ∷ [])
+    (block (set 2 (variable A) (call op.CShift (v B ∷ minus (n 1) ∷ [])) ∷ []))
+    ≡ record {
+      line = 2;
+      scalars = pos 0 ∷ pos 0 ∷ [];
+      event = ElementsAssigned false None (up_to 3 ∷ up_to 2 ∷ []) 0 (each (Index 0 ∷ Index 1 ∷ []))
+          (Element 1 (each (apply op.Add (apply op.Sub two_on (past 3 two_on)) (Number (pos 2)) ∷ apply op.Add (above 1 1) (Number (pos 0)) ∷ [])));
+    } ∷ []
+unfolding int_wrap
+shift_of_columns = refl
+
+-- A transpose is one part as well: each subscript goes by the other index.
+-- INTEGER :: A(0:2,2), B(2,-1:1)|A = TRANSPOSE(B)|END
+transpose_part : trail_of (array A (dim (pos 0) (pos 2) ∷ dim (pos 1) (pos 2) ∷ []) (pos 0) ∷ array B (dim (pos 1) (pos 2) ∷ dim (negsuc 0) (pos 1) ∷ []) (pos 0) ∷ [])
+    (block (set 2 (variable A) (call op.Transpose (v B ∷ [])) ∷ []))
+    ≡ record {
+      line = 2;
+      scalars = pos 0 ∷ pos 0 ∷ [];
+      event = ElementsAssigned false None (record { first = pos 0; step = pos 1; count = 3 } ∷ up_to 2 ∷ []) 0 (each (Index 0 ∷ Index 1 ∷ []))
+          (Element 1 (each (apply op.Add (above 1 1) (Number (pos 1)) ∷ apply op.Add (above 0 0) (Number (negsuc 0)) ∷ [])));
+    } ∷ []
+unfolding int_wrap
+transpose_part = refl
+
+-- Where the shapes differ the reductions are reached, and nothing else.
+-- INTEGER :: A(3), B(2)|A = CSHIFT(B, SUM(A))|END
+shift_of_other_shape : trail_of (vector A 3 0 ∷ vector B 2 0 ∷ []) (block (set 2 (variable A) (call op.CShift (v B ∷ call op.Sum (v A ∷ []) ∷ [])) ∷ []))
+    ≡ record { line = 2; scalars = pos 0 ∷ pos 0 ∷ []; event = Reduced op.Sum (3 ∷ []) (all_of 0) } ∷ []
+unfolding int_wrap
+shift_of_other_shape = refl
+
+-- A fault of the number comes before the part.
+-- A = CSHIFT(B, 1/I)|END
+fault_of_number : trail_of names (block (set 2 (variable A) (call op.CShift (v B ∷ div (n 1) (v I) ∷ [])) ∷ [])) ≡ []
+unfolding int_wrap
+fault_of_number = refl
+
+-- ---- loops
 
 -- After EXIT no iteration is reached, and what stands after the loop is.
 -- DO I = 2, 3|A = I|EXIT|END DO|A = 1|END

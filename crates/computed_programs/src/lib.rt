@@ -11,10 +11,10 @@
 //! - `OrderExamples`: what is evaluated before what, and which fault is the first.
 //! - `OperatorExamples`: values of operators at the ends of 64 bits and of negative numbers.
 //! - `AssignmentExamples`, `ForallExamples`: array assignment and WHERE; FORALL.
-//! - `StatementExamples`: IF, DO, STOP, PRINT, and what names stand for.
+//! - `StatementExamples`: IF, DO, STOP, PRINT, circular shifts, and what names stand for.
 //! - `TrailExamples`, `NestTrailExamples`: which parts are reached, and what the copies of each statement lie beside.
 //!
-//! *Proved:* Examples alone, and nothing stands on them: 126 programs more and 24 trails, each for one sentence of the
+//! *Proved:* Examples alone, and nothing stands on them: 128 programs more and 29 trails, each for one sentence of the
 //! definitions of `array_meaning` and `statement_trail`, as what is evaluated first, where no limit is asked, or when a
 //! mask is taken; computed by the check and compared in the same way.
 #![tactic(auto)]

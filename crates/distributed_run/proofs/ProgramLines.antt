@@ -10,6 +10,7 @@ use Rattle.syntax_tree.specs.MainProgram.{MainProgram}
 use Rattle.mappings.specs.declared.mapping.Mapping.{Mapping}
 use Rattle.expression_rules.specs.declared.dims.Dim.{Dim}
 use Rattle.name_table.specs.Entries.{entries}
+use Rattle.name_table.specs.KnownSymbols.{AllAreKnown}
 use Rattle.name_table.specs.Resolved.{HasNoBreach}
 use Rattle.name_table.specs.declared.names.Entry.{Entry}
 use Rattle.body_check.specs.BodyRules.{body_breaches}
@@ -38,7 +39,7 @@ use Rattle.code_meaning.specs.ProgramText.{Text, table_on, text, text_meaning}
 use Rattle.compiled_program.specs.Lowered.{EndsAs, IsTable, opening}
 use Rattle.lowered_expressions.specs.Passed.{passed}
 use Rattle.compiled_program.specs.StatementCode.{block_copies}
-use Rattle.compiled_program.proofs.ValidPrograms.{trail_lowered, valid}
+use Rattle.compiled_program.proofs.ValidPrograms.{ranked, trail_lowered, valid}
 use Rattle.nest_items.specs.BlockForms.{BlockHasForms}
 use Rattle.fitting_states.specs.FittingStates.{ProgramFits}
 use Rattle.compiled_program.proofs.StandingPrograms.{program_forms}
@@ -157,10 +158,11 @@ module _ (grid : List ℕ) (p : MainProgram) where
   many = layouts-many nodes (program_copies p) (entries p) (start_maps grid p)
 
   -- after so many steps the run is over
-  pub ends : KeepsRules p → ProgramFits p → (k : ℕ) × IsOver (steps text_meaning k (grid_opening grid p)).control.status
-  ends rules fit =
+  pub ends : KeepsRules p → ProgramFits p → AllAreKnown p → (k : ℕ) × IsOver (steps text_meaning k (grid_opening grid p)).control.status
+  ends rules fit known =
       let enough : program_copies p ≤ program_copies p = omega arith in
-      let has = trail_lowered p (program_copies p) moves table layouts tabled enough many rules.resolved rules.bodies_fine (program_forms p rules.resolved rules.bodies_fine fit.1) fit in
+      let has = trail_lowered p (program_copies p) moves table layouts (ranked p known rules.resolved) tabled enough many rules.resolved rules.bodies_fine
+      (program_forms p rules.resolved rules.bodies_fine fit.1) fit in
       (has.0, over-at has.0 has.1)
 
   module _ (texts : AllTextsLowered) (dealt : AllMovesDealt) (numbers : AllMovesByNumber) (rules : KeepsRules p) (fit : ProgramFits p) (is : IsGrid grid)

@@ -10,6 +10,7 @@ use accepted_program::AcceptedProgram;
 use compiled_program::{accepted_moves_are_dealt, compile_program, moves_by_number};
 use hpf_base::OutOfMemory;
 use messages_lowered::accepted_texts_lowered;
+use name_table::all_are_known;
 use serial_run::End;
 use std::alloc::Global;
 use whole_machine::WholeMachine;
@@ -33,6 +34,7 @@ pub fn list_messages(
     ensures { IfOk result (IsMessageList accepted.now.grid.now (main_program accepted.now.program.tree)) }
 {
     accepted_texts_lowered();
+    all_are_known();
     accepted_moves_are_dealt();
     moves_by_number();
     let compiled = compile_program(alloc, accepted)?;

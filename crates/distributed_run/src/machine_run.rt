@@ -3,6 +3,7 @@
 ghost use Rattle.std.specs.Prelude.{◌≡◌, ◌↔◌, ◌<◌, ◌++◌, ℕ, IsTrue, List, OnOk, Some, length};
 ghost use Rattle.std.specs.List.{slice_get};
 ghost use Rattle.syntax_tree.specs.MainProgram.{main_program};
+ghost use Rattle.name_table.specs.KnownSymbols.{AllAreKnown};
 ghost use Rattle.machine_steps.specs.Agrees.{IsOver};
 ghost use Rattle.machine_steps.specs.Instr.{Remapping, Running};
 ghost use Rattle.code_meaning.specs.ProgramText.{Text};
@@ -24,11 +25,12 @@ use slot_values::Status;
 use std::alloc::Global;
 use whole_machine::WholeMachine;
 
-/// A program whose machine comes to an end: its numbers are of 64 bits.
+/// A program whose machine comes to an end: its numbers are of 64 bits, and all that it declares is known.
 #[derive(Drop)]
 pub(crate) struct EndingProgram<'a> {
     pub accepted: &'a AcceptedProgram<'a>,
     pub ghost numbers: { ProgramFits (main_program accepted.now.program.tree) } by { program-prop (main_program accepted.now.program.tree) },
+    pub ghost known: { AllAreKnown (main_program accepted.now.program.tree) },
 }
 
 /// Runs the machine of a program to its end, and puts the lines of the messages of its steps after the others. An `Err` is want of memory.

@@ -7,7 +7,7 @@ use Rattle.syntax_tree.specs.Op.TheVariants as op
 use Rattle.syntax_tree.specs.Expression.{Expression, Number, Truth, Name as Alone, Element, Call, Unary, Binary, Closed, Part, One, Parts, End, More}
 use Rattle.expression_rules.specs.declared.evaluated.Evaluated.{Evaluated}
 use Rattle.expression_rules.specs.declared.evaluated.Evaluated.TheVariants.{Invalid, Unknown, Known}
-use Rattle.syntax_tree.specs.Arguments.{takes, is_reduction, is_inquiry, is_processor_count}
+use Rattle.syntax_tree.specs.Arguments.{takes, is_transformational, is_inquiry, is_processor_count}
 use Rattle.syntax_tree.specs.OperatorValues.{truth, operator_value}
 use Rattle.expression_rules.specs.Dims.{extent, elements}
 use Rattle.expression_rules.specs.Symbols.{SymbolTable, find}
@@ -114,7 +114,7 @@ abbrev pub called_value : Site → Op → Option Symbol → Evaluated (List ℤ)
 called_value p o s ns after =
     if is_inquiry o then of_array p o s after
     else (if is_processor_count o then processor_count p ns
-    else (if is_reduction o then Invalid else elemental_value o ns))
+    else (if is_transformational o then Invalid else elemental_value o ns))
 
 -- a name by itself: only a named constant has a value
 abbrev pub value_of_symbol : Option Symbol → Evaluated ℤ

@@ -15,7 +15,9 @@ use crate::scope::Scope;
 use crate::symbols::Symbol;
 use hpf_base::Grid;
 use std::alloc::{AllocError, Global};
-use syntax_tree::{DivZero, Expr, Op, apply, is_inquiry, is_processor_count, is_reduction, takes};
+use syntax_tree::{
+    DivZero, Expr, Op, apply, is_inquiry, is_processor_count, is_transformational, takes,
+};
 
 /// The value of an expression that must be constant, over the names that are declared. `grid` is given in a directive.
 #[cycle(constants)]
@@ -84,7 +86,7 @@ fn called_value(
     } else if is_processor_count(op) {
         let numbers = values(alloc, grid, scope, arguments)?;
         Ok(processor_count(grid, &numbers))
-    } else if is_reduction(op) {
+    } else if is_transformational(op) {
         Ok(Evaluated::Invalid)
     } else {
         let numbers = values(alloc, grid, scope, arguments)?;

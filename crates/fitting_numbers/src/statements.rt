@@ -1,14 +1,14 @@
 //! The numbers in statements.
 
 ghost use Rattle.array_meaning.specs.Statements.{Arms};
-ghost use Rattle.fitting_states.specs.FittingStates.{ArmsFit, BlockFits, StatementFits};
-ghost use Rattle.resolved_program.specs.Resolved.{arms_of, block_of, statement, with_arm};
+ghost use Rattle.fitting_states.specs.FittingStates.{ArmsFit, BlockFits, StatementFits, TransformationFits};
+ghost use Rattle.resolved_program.specs.Resolved.{arms_of, block_of, statement, transformation, with_arm};
 
 use crate::assignments::{
     control_fits, controls_fit, element_assignments_fit, mask_fits, section_assignments_fit,
 };
 use crate::terms::{subscripts_fit, term_fits, terms_fit};
-use resolved_program::{Action, Arm, Statement};
+use resolved_program::{Action, Arm, Statement, Transformation};
 
 /// The numbers in the statements of a resolved program are of 64 bits: its types hold no others. It reads each of them, those of PRINT aside, takes
 /// no memory and changes nothing.
@@ -43,6 +43,7 @@ fn statement_fits(s: &Action)
             subscripts_fit(subscripts);
             term_fits(right);
         }
+        Action::Transform(_, _, how) => transformation_fits(how),
         Action::If(arms, other) => {
             arms_fit(arms);
             block_fits(other);
@@ -67,6 +68,16 @@ fn statement_fits(s: &Action)
         | Action::Cycle
         | Action::Continue
         | Action::Redistribute => {}
+    }
+}
+
+/// The numbers in what makes of a whole array a whole array fit.
+fn transformation_fits(how: &Transformation)
+    ensures { TransformationFits (transformation how.now) }
+{
+    match how {
+        Transformation::CircularShift(by) => term_fits(by),
+        Transformation::Transposition => {}
     }
 }
 

@@ -1,15 +1,15 @@
 -- Statements whose numbers are of 64 bits keep the state of 64 bits.
-use Rattle.std.proofs.Common.{ℕ, zero, suc, ◌++◌, ◌==◌, drop, List, [], ◌∷◌, Bool, true, false, if◌then◌else◌, Option, Some, None, Result, Ok, Err, IfOk, ℤ, ◌+ℤ◌, FitsSigned, w64}
+use Rattle.std.proofs.Common.{ℕ, zero, suc, ◌++◌, ◌==◌, drop, List, [], ◌∷◌, map, get_or, Bool, true, false, if◌then◌else◌, Option, Some, None, Result, Ok, Err, IfOk, ℤ, pos, ◌+ℤ◌, FitsSigned, w64}
 use Rattle.std.specs.Bool.{⊤}
-use Rattle.std.specs.List.{AllByRecursion}
+use Rattle.std.specs.List.{AllByRecursion, range_with_len}
 use Rattle.hpf_base.specs.ElementOrder.{product}
 use Rattle.op_tables.specs.Operators.{wrapped}
 use Rattle.array_meaning.specs.Terms.{Term, Terms, SectionSubscripts, Control, list_of}
-use Rattle.array_meaning.specs.Statements.{SectionAssignment, ElementAssignment, Item, Block, Done, Then, Statement, AssignScalar, AssignElement, AssignSection, If, Do, Where, Forall, Print, Stop, Exit, Cycle, Continue, Redistribute, Mark, Unmarked, Outermost, Arms, NoArm, Arm}
+use Rattle.array_meaning.specs.Statements.{SectionAssignment, ElementAssignment, WholeArray, Transformation, Item, Block, Done, Then, Statement, AssignScalar, AssignElement, AssignSection, Transform, If, Do, Where, Forall, Print, Stop, Exit, Cycle, Continue, Redistribute, Mark, Unmarked, Outermost, Arms, NoArm, Arm}
 use Rattle.array_meaning.specs.declared.faults.FaultKind.{FaultKind}
-use Rattle.array_meaning.specs.declared.faults.FaultKind.TheVariants.{SpaceLimit, NotOneToOne}
+use Rattle.array_meaning.specs.declared.faults.FaultKind.TheVariants.{Shape, SpaceLimit, NotOneToOne}
 use Rattle.array_meaning.specs.Faults.{Cause, ◌>>=◌, fails}
-use Rattle.array_meaning.specs.State.{State, set_scalar, place_in, store, store_all}
+use Rattle.array_meaning.specs.State.{State, array, set_scalar, place_in, store, store_all}
 use Rattle.array_meaning.specs.Runs.{Completion, Normal, Exited, Cycled, Run, normal, if_normal, then_do, with_value, one_step}
 use Rattle.array_meaning.specs.declared.sections.Sequence.{Sequence}
 use Rattle.array_meaning.specs.declared.sections.Selection.{Selection}
@@ -19,6 +19,7 @@ use Rattle.array_meaning.specs.Elementals.{Elemental, sections, value_at, each, 
 use Rattle.array_meaning.specs.Expressions.{value, values, elemental, selections, index_values, all_index_values}
 use Rattle.array_meaning.specs.ArrayAssignments.{Mask, mask_of, negated_mask, store_at, if_true, assign_elemental, assign_section, assign_where, assign_all_where, run_where}
 use Rattle.array_meaning.specs.Forall.{index_extents, indices_at, all_subscripts, check, check_limits, check_one_to_one, is_forall_in_limits, is_one_to_one, mask_over, assign_forall, assign_all_forall, run_forall}
+use Rattle.array_meaning.specs.Transformations.{extents_of, source_place, shift_of, has_shape, transformed, transform}
 use Rattle.array_meaning.specs.Iterations.{nest_axes, iteration_count}
 use Rattle.array_meaning.specs.Touches.{iteration_touches}
 use Rattle.array_meaning.specs.Clashes.{Clash, first_clash}
@@ -212,6 +213,21 @@ forall_fits line controls mask body f s h =
     (λ axes. if n axes == 0 then normal s else then_do (limited line (n axes) mask body axes s) (checked line (n axes) mask body axes)) h (has_any _) (λ axes any.
     over_fits line (n axes) mask body axes (n axes == 0) f s h)
 
+-- ---- transformations of whole arrays
+
+-- elements of one array at these places of another one
+moved_fit : (y : ℕ) (place : ℕ → ℕ) (s : State) → StateFits s → (ts : List ℕ)
+    → AllByRecursion StoreFits (map (λ t. Some record { place = t; value = get_or (array s y).elements (place t) (pos 0) }) ts)
+moved_fit y place s h [] = tt
+moved_fit y place s h (t ∷ ts) = (h.elements y (place t), moved_fit y place s h ts)
+
+pub transform_fits : (x y : WholeArray) (how : Transformation) (s : State) → StateFits s → IfOk (transform x y how s) StateFits
+transform_fits x y how s h =
+    let to : ℤ → Result State Cause = λ k. Ok (store_all s x.array (transformed x y how k s)) in
+    then_has (λ k. ⊤) StateFits (shift_of s how) (λ k. if has_shape x y how then to k else fails Shape) (has_any (shift_of s how)) (λ k any.
+    if_fits (has_shape x y how) (to k) (fails Shape)
+    (store_all_fits x.array s (transformed x y how k s) h (moved_fit y.array (source_place how k (extents_of x)) s h (range_with_len 0 (product (extents_of x))))) tt)
+
 -- ---- PRINT
 
 pub print_fits : (items : List Item) (s : State) → StateFits s → IfOk (print items s) StateFits
@@ -230,6 +246,7 @@ mutual
   run_fits (AssignScalar k right) line f s h = step_fits line s (assign_scalar k right s) h (assign_scalar_fits k right f s h)
   run_fits (AssignElement a subscripts right) line f s h = step_fits line s (assign_element a subscripts right s) h (assign_element_fits a subscripts right f.1 s h)
   run_fits (AssignSection a subs right) line f s h = step_fits line s (assign_section a subs right s) h (assign_section_fits a subs right f.0 f.1 s h)
+  run_fits (Transform x y how) line f s h = step_fits line s (transform x y how s) h (transform_fits x y how s h)
   run_fits (If arms other) line f s h = arms_fit arms (run_block other) f.0 (block_fits other f.1) s h
   run_fits (Do mark loop body) line f s h =
       let turns : Sequence → State → Run = λ p. iterate p.count loop.index p.first p.step (run_block body) in

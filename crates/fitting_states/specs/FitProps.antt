@@ -9,9 +9,9 @@ use Rattle.array_meaning.specs.Entry.{Entry}
 use Rattle.array_meaning.specs.What.{What}
 use Rattle.array_meaning.specs.What.TheVariants as what
 use Rattle.array_meaning.specs.Terms.{Term, Number, Scalar, Index, Element, Section, Apply, Reduce, Terms, NoTerm, More, SectionSubscripts, NoSubscript, Subscript, Triplet, Control}
-use Rattle.array_meaning.specs.Statements.{SectionAssignment, ElementAssignment, Loop, Block, Done, Then, Statement, AssignScalar, AssignElement, AssignSection, If, Do, Where, Forall, Print, Stop, Exit, Cycle, Continue, Redistribute, Mark, Unmarked, Outermost, Arms, NoArm, Arm}
+use Rattle.array_meaning.specs.Statements.{SectionAssignment, ElementAssignment, Transformation, CircularShift, Transposition, Loop, Block, Done, Then, Statement, AssignScalar, AssignElement, AssignSection, Transform, If, Do, Where, Forall, Print, Stop, Exit, Cycle, Continue, Redistribute, Mark, Unmarked, Outermost, Arms, NoArm, Arm}
 use Rattle.array_meaning.specs.Resolution.{resolved_block}
-use Rattle.fitting_states.specs.FittingStates.{InitialValueFits, InitialValuesFit, TermFits, TermsFit, SubscriptsFit, ControlFits, MaskFits, SectionAssignmentFits, ElementAssignmentFits, BlockFits, StatementFits, MarkFits, ArmsFit, ProgramFits}
+use Rattle.fitting_states.specs.FittingStates.{InitialValueFits, InitialValuesFit, TermFits, TermsFit, SubscriptsFit, ControlFits, MaskFits, SectionAssignmentFits, ElementAssignmentFits, TransformationFits, BlockFits, StatementFits, MarkFits, ArmsFit, ProgramFits}
 
 unit-prop : IsProp (Unit {0})
 unit-prop = Prim.hlevel props
@@ -61,6 +61,10 @@ sections-prop = all-prop SectionAssignmentFits (λ b. two-prop (subscripts-prop 
 elements-prop : (bs : List ElementAssignment) → IsProp (AllByRecursion ElementAssignmentFits bs)
 elements-prop = all-prop ElementAssignmentFits (λ b. two-prop (terms-prop b.subscripts) (term-prop b.right))
 
+transformation-prop : (how : Transformation) → IsProp (TransformationFits how)
+transformation-prop (CircularShift by) = term-prop by
+transformation-prop Transposition = unit-prop
+
 mutual
   block-prop : (b : Block) → IsProp (BlockFits b)
   block-prop Done = unit-prop
@@ -70,6 +74,7 @@ mutual
   statement-prop (AssignScalar k t) = term-prop t
   statement-prop (AssignElement a ts t) = two-prop (terms-prop ts) (term-prop t)
   statement-prop (AssignSection a subs t) = two-prop (subscripts-prop subs) (term-prop t)
+  statement-prop (Transform x y how) = transformation-prop how
   statement-prop (If arms other) = two-prop (arms-prop arms) (block-prop other)
   statement-prop (Do mark loop body) = three-prop (mark-prop mark) (control-prop loop.control) (block-prop body)
   statement-prop (Where mask body others) = three-prop (term-prop mask) (sections-prop body) (sections-prop others)

@@ -10,7 +10,7 @@ use Rattle.array_meaning.specs.Entry.{Entry}
 use Rattle.array_meaning.specs.What.{What}
 use Rattle.array_meaning.specs.What.TheVariants as what
 use Rattle.array_meaning.specs.Terms.{Term, Number, Element, Section, Apply, Reduce, Terms, NoTerm, More, SectionSubscripts, NoSubscript, Subscript, Triplet, Control}
-use Rattle.array_meaning.specs.Statements.{SectionAssignment, ElementAssignment, Block, Done, Then, Statement, AssignScalar, AssignElement, AssignSection, If, Do, Where, Forall, Mark, Unmarked, Outermost, Arms, NoArm, Arm}
+use Rattle.array_meaning.specs.Statements.{SectionAssignment, ElementAssignment, Transformation, CircularShift, Transposition, Block, Done, Then, Statement, AssignScalar, AssignElement, AssignSection, Transform, If, Do, Where, Forall, Mark, Unmarked, Outermost, Arms, NoArm, Arm}
 use Rattle.array_meaning.specs.State.{State, scalar, array}
 use Rattle.array_meaning.specs.Resolution.{resolved_block}
 
@@ -68,6 +68,11 @@ SectionAssignmentFits b = SubscriptsFit b.subscripts × TermFits b.right
 abbrev pub ElementAssignmentFits : ElementAssignment → Type 0
 ElementAssignmentFits b = TermsFit b.subscripts × TermFits b.right
 
+-- the number of places of a circular shift
+abbrev pub TransformationFits : Transformation → Type 0
+TransformationFits (CircularShift by) = TermFits by
+TransformationFits Transposition = Unit {0}
+
 abbrev mutual
   pub BlockFits : Block → Type 0
   BlockFits Done = Unit {0}
@@ -77,6 +82,7 @@ abbrev mutual
   StatementFits (AssignScalar k right) = TermFits right
   StatementFits (AssignElement a subscripts right) = TermsFit subscripts × TermFits right
   StatementFits (AssignSection a subs right) = SubscriptsFit subs × TermFits right
+  StatementFits (Transform x y how) = TransformationFits how
   StatementFits (If arms other) = ArmsFit arms × BlockFits other
   StatementFits (Do mark loop body) = MarkFits mark × ControlFits loop.control × BlockFits body
   StatementFits (Where mask body others) = TermFits mask × AllByRecursion SectionAssignmentFits body × AllByRecursion SectionAssignmentFits others

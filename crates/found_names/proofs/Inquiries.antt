@@ -1,5 +1,5 @@
 -- SIZE, LBOUND and UBOUND of an array have a value where no rule of names, types and ranks is broken.
-use Rattle.std.proofs.Common.{◌≡◌, ℕ, zero, suc, ◌+◌, Bool, true, false, true≢false, cond, bytes_eq, List, [], ◌∷◌, length, map, position, slice_get, Option, Some, None, refl, sym, ap, subst, ◌∙◌, arith}
+use Rattle.std.proofs.Common.{◌≡◌, ℕ, zero, suc, ◌+◌, ◌≤◌, Bool, true, false, true≢false, cond, bytes_eq, List, [], ◌∷◌, length, map, position, slice_get, Option, Some, None, refl, sym, ap, subst, ◌∙◌, arith}
 use Rattle.std.specs.Bool.{⊤}
 use Rattle.std.specs.Prelude.{ℤ, pos, negsuc, drop, ◌&&◌, ◌||◌, not, nat_le, is_some, unwrap_or, if◌then◌else◌}
 use Rattle.std.specs.List.{AllByRecursion, list_all, position_from}
@@ -8,7 +8,7 @@ use Rattle.std.proofs.lemmas.Iterator.Adapters.{position_from-zero}
 use Rattle.std.proofs.lemmas.Slice.Eq.{bytes_eq-Decides}
 use Rattle.op_tables.specs.declared.op.Op.{Op}
 use Rattle.op_tables.specs.declared.op.Op.TheVariants as op
-use Rattle.op_tables.specs.Arguments.{is_inquiry, is_processor_count, is_reduction, takes}
+use Rattle.op_tables.specs.Arguments.{is_inquiry, is_processor_count, is_reduction, is_transformation, takes}
 use Rattle.op_tables.specs.Operators.{operator_value}
 use Rattle.syntax_tree.specs.Expression.{Expression, Number, Truth, Name as Alone, Element, Call, Unary, Binary, Closed, Part, One, Range, Glued, Parts, End, More, Maybe, Absent, Present}
 use Rattle.expression_rules.specs.Constants.{bound_of, elemental_value, inquired, item_or, named_first, numbered, of_array, operated, part_value, unless_zero, value, value_of_symbol, values, values_after, with_more}
@@ -22,12 +22,14 @@ use Rattle.expression_rules.specs.declared.symbols.Symbol.TheVariants as symbol
 use Rattle.expression_rules.specs.declared.types.Context.TheVariants.{Statement}
 use Rattle.expression_rules.specs.declared.types.TypeAndRank.{TypeAndRank}
 use Rattle.name_table.specs.Entries.{declared_as, entry}
+use Rattle.name_table.specs.Places.{whole_rank}
 use Rattle.name_table.specs.declared.names.What.TheVariants as what
 use Rattle.array_meaning.specs.Terms.{Apply, Term, Terms, Reduce}
 use Rattle.array_meaning.specs.Resolution.{alone, constant, constants, dims_of, first_named, first_term, inquiry, or_zero, place_of, term_of, terms_of}
 use Rattle.name_table.proofs.Tests.{HasValue, both, none_some}
 use Rattle.name_table.proofs.TypedOperands.{typed_value}
 use Rattle.well_formed.proofs.Dimensions.{IsFull, declared_found}
+use Rattle.well_formed.proofs.Transformed.{IsMoved, Shifted, Transposed}
 use Rattle.found_names.specs.FoundNames.{IsScalarName}
 use Rattle.found_names.specs.Inquiries.{AreAnswered, IsAnswered, IsValue, MaybeIsAnswered, PartIsAnswered}
 use Rattle.found_names.specs.Scalars.{Values}
@@ -191,14 +193,15 @@ module _ (t : SymbolTable) (full : (x : Name) (s : Symbol) → find x t ≡ Some
       Agree (of_array None o (named_first t ps) (values_after None t ps))
       (or_zero (inquired None o (dims_of (first_named (map entry t) ps)) (drop 1 (constants (terms_of (map entry t) indices ps))))) →
       Agree (value None t (Call o ps)) (constant (term_of (map entry t) indices (Call o ps)))
-  call_agree o ps all first = by (is_inquiry o) (is_processor_count o) (is_reduction o)
+  call_agree o ps all first = by (is_inquiry o) (is_processor_count o) (is_reduction o) (is_transformation o)
     where
-      by : (iq pc rd : Bool) → Agree (if iq then of_array None o (named_first t ps) (values_after None t ps) else (if pc then Invalid else
-          (if rd then Invalid else elemental_value o (values None t ps)))) (constant (call_term iq rd o ps (terms_of (map entry t) indices ps)))
-      by true pc rd = first
-      by false true rd = tt
-      by false false true = tt
-      by false false false = elemental_agree o (values None t ps) (constants (terms_of (map entry t) indices ps)) all
+      by : (iq pc rd tr : Bool) → Agree (if iq then of_array None o (named_first t ps) (values_after None t ps) else (if pc then Invalid else
+          (if rd || tr then Invalid else elemental_value o (values None t ps)))) (constant (call_term iq rd o ps (terms_of (map entry t) indices ps)))
+      by true pc rd tr = first
+      by false true rd tr = tt
+      by false false true tr = tt
+      by false false false true = tt
+      by false false false false = elemental_agree o (values None t ps) (constants (terms_of (map entry t) indices ps)) all
 
   mutual
     agree : (e : Expression) → Agree (value None t e) (constant (term_of (map entry t) indices e))
@@ -335,3 +338,14 @@ module _ (t : SymbolTable) (full : (x : Name) (s : Symbol) → find x t ≡ Some
     maybe_answered : (m : Maybe) → is_triplet_part Statement t m ≡ true → MaybeIsAnswered (map entry t) indices m
     maybe_answered Absent h = tt
     maybe_answered (Present a) h = all_answered a (typed_value is_integer_scalar (type_and_rank Statement t a) h)
+
+  -- ---- those of a circular shift or a transpose
+
+  named_answered : (x : Expression) → 1 ≤ whole_rank t x → IsAnswered (map entry t) indices x
+  named_answered (Alone x) h = tt
+  named_answered x h = absurd (omega (arith, h))
+
+  pub moved_answered : (left right : Expression) → IsMoved Statement t left right → IsAnswered (map entry t) indices right
+  moved_answered left right (Shifted b k some same scalar) =
+      (λ i. absurd (not_true i), (named_answered b (omega (arith, some, same)), (all_answered k (typed_value is_integer_scalar (type_and_rank Statement t k) scalar), tt)))
+  moved_answered left right (Transposed b one same) = (λ i. absurd (not_true i), (named_answered b (omega (arith, same)), tt))

@@ -21,19 +21,20 @@ use Rattle.expression_rules.specs.Types.{are_subscripts, count_of, if_typed, is_
 use Rattle.statement_walk.specs.Head as head
 use Rattle.statement_walk.specs.Heads.{PlacedHead, arm_heads, else_heads, heads, independent_heads, indexed, indices_of, masked, placed, statement_heads}
 use Rattle.name_table.specs.Entries.{declared_as, entry, what_is}
-use Rattle.name_table.specs.Places.{ArrayElement, IntegerScalar, LogicalArray, LogicalScalar, MaskedArray, PrintItem, RightOf, Variable, all_meet, context_of, integer_scalars, is_designator, is_element, is_integer, is_mask, is_masked_by, is_right_of, meets, place, places}
+use Rattle.name_table.specs.Places.{ArrayElement, AssignedTo, IntegerScalar, LogicalArray, LogicalScalar, MaskedArray, PrintItem, RightOf, Variable, all_meet, context_of, integer_scalars, is_designator, is_element, is_integer, is_mask, is_masked_by, is_right_of, is_right_side, is_transformed, meets, place, places, whole_rank}
 use Rattle.name_table.specs.declared.names.Entry.{Entry}
 use Rattle.name_table.specs.declared.names.What.{What}
 use Rattle.name_table.specs.declared.names.What.TheVariants as what
 use Rattle.array_meaning.specs.Terms.{Term, Number, Scalar, Index, Element, Section, Apply, Reduce}
-use Rattle.array_meaning.specs.Statements.{Block, Do, Done, ElementAssignment, Loop, SectionAssignment, Then}
-use Rattle.array_meaning.specs.Resolution.{alone, assignment, control_of, dims_of, do_loop, element_assignments, item, item_of, left_of, loop_of, place_of, resolved, resolved_arms, resolved_block, resolved_otherwise, section_assignments, section_subscripts, step_of, term_of, terms_of, to_element, to_section, with_inner_unmarked}
+use Rattle.array_meaning.specs.Statements.{Block, CircularShift, Do, Done, ElementAssignment, Loop, SectionAssignment, Then, Transformation, Transposition}
+use Rattle.array_meaning.specs.Resolution.{alone, assignment, control_of, dims_of, do_loop, element_assignments, item, item_of, left_of, loop_of, place_of, resolved, resolved_arms, resolved_block, resolved_otherwise, section_assignments, section_subscripts, step_of, term_of, terms_of, to_element, to_section, transform_or, with_inner_unmarked}
 use Rattle.array_meaning.specs.Resolution as resolution
 use Rattle.name_table.proofs.Tests.{HasValue, all_split, both}
 use Rattle.name_table.proofs.TypedOperands.{typed_value}
 use Rattle.well_formed.proofs.Dimensions.{IsFull, declared_found}
 use Rattle.well_formed.proofs.Expressions.{either}
-use Rattle.found_names.specs.Scalars.{ArmsAlone, Asked, BlockAlone, ControlGives, Gives, HaveDimensions, IndexedGives, ItemGives, MaskGives, MaskedGives, OneValue, ScalarsAlone, Values}
+use Rattle.well_formed.proofs.Transformed.{IsShift, ByScalar, is_moved, transformed, untransformed}
+use Rattle.found_names.specs.Scalars.{ArmsAlone, Asked, BlockAlone, ControlGives, Gives, HaveDimensions, IndexedGives, ItemGives, MaskGives, MaskedGives, OneValue, ScalarsAlone, TransformationGives, Values}
 use Rattle.found_names.proofs.Gives.{gives}
 use Rattle.found_names.proofs.Heads.{IsKept}
 use Rattle.found_names.proofs.Types.{Fits, integer_fits, logical_fits, of_element, subscripted_rank}
@@ -281,6 +282,24 @@ module _ (t : SymbolTable) (full : (x : Name) (s : Symbol) → find x t ≡ Some
         subst (λ k. AllByRecursion (IndexedGives k) (element_assignments (map entry t) (indices_of axes) body)) same (indexed_give xs axes body more),
       )
 
+  shift_gives : (how : Transformation) → IsShift t how → TransformationGives how
+  shift_gives (CircularShift by) (ByScalar x h) = one x h
+  shift_gives Transposition shift = tt
+
+  assigned_or : (left : syntax.Variable) (right : Expression) → HasValue (type_and_rank Statement t (designator left)) → (b : Bool) →
+      is_right_side Statement t (designator left) right ≡ b → (b || is_transformed Statement t (whole_rank t (designator left)) right) ≡ true → ScalarsAlone (resolved (map entry t) (syntax.Assign left right))
+  assigned_or left right typed true is h =
+      let own = right_value is_right_of (type_and_rank Statement t (designator left)) (type_and_rank Statement t right) is in
+      subst (λ o. ScalarsAlone (transform_or (map entry t) (designator left) o (assignment (left_of (map entry t) [] left) (term_of (map entry t) [] right))))
+      (sym (untransformed t right own))
+      (assigned (left_of (map entry t) [] left) (term_of (map entry t) [] right) (gives t full have [] Values (designator left) typed)
+      (gives t full have [] (right_asked (left_of (map entry t) [] left)) right
+      (right_fits (left_of (map entry t) [] left) (type_and_rank Statement t (designator left)) (type_and_rank Statement t right) is (left_rank left))))
+  assigned_or left right typed false is h =
+      transformed t full ScalarsAlone (designator left) (assignment (left_of (map entry t) [] left) (term_of (map entry t) [] right))
+      (λ x y how ranks shift. shift_gives how shift) right
+      (is_moved Statement t (designator left) right h)
+
   mutual
     pub block_alone : (xs : List Name) (b : syntax.Block) → AllByRecursion IsMet (heads xs b) → BlockAlone (resolved_block (map entry t) b)
     block_alone xs syntax.Done h = tt
@@ -290,10 +309,8 @@ module _ (t : SymbolTable) (full : (x : Name) (s : Symbol) → find x t ≡ Some
     statement_alone : (xs : List Name) (line : ℕ) (s : syntax.Statement) → AllByRecursion IsMet (statement_heads xs line s) → ScalarsAlone (resolved (map entry t) s)
     statement_alone xs line (syntax.Assign left right) h =
         let two = both (meets Statement t Variable (designator left)) _ h.0 in
-        let own = both (meets Statement t (RightOf (designator left)) right) true two.1 in
-        assigned (left_of (map entry t) [] left) (term_of (map entry t) [] right) (gives t full have [] Values (designator left) two.0)
-        (gives t full have [] (right_asked (left_of (map entry t) [] left)) right
-        (right_fits (left_of (map entry t) [] left) (type_and_rank Statement t (designator left)) (type_and_rank Statement t right) own.0 (left_rank left)))
+        let own = both (meets Statement t (AssignedTo (designator left)) right) true two.1 in
+        assigned_or left right two.0 (is_right_side Statement t (designator left) right) refl own.0
     statement_alone xs line (syntax.If arms rest) h =
         let parts = all_split IsMet (arm_heads xs arms) (else_heads xs rest) h in (arms_alone xs arms parts.0, else_alone xs rest parts.1)
     statement_alone xs line (syntax.Do mark axis b) h =

@@ -7,7 +7,7 @@ use Rattle.name_table.specs.declared.names.Entry.{Entry}
 use Rattle.name_table.specs.declared.names.What.{What}
 use Rattle.name_table.specs.declared.names.What.TheVariants as what
 use Rattle.array_meaning.specs.Terms.{Term, Number, Scalar, Index, Element, Section, Apply, Reduce, Terms, NoTerm, More, SectionSubscripts, NoSubscript, Subscript, Triplet, Control}
-use Rattle.array_meaning.specs.Statements.{Item, Text, Value, Elements, SectionAssignment, ElementAssignment, Block, Done, Then, Statement, AssignScalar, AssignElement, AssignSection, If, Do, Where, Forall, Print, Stop, Exit, Cycle, Continue, Redistribute, Arms, NoArm, Arm}
+use Rattle.array_meaning.specs.Statements.{Item, Text, Value, Elements, SectionAssignment, ElementAssignment, Transformation, CircularShift, Transposition, Block, Done, Then, Statement, AssignScalar, AssignElement, AssignSection, Transform, If, Do, Where, Forall, Print, Stop, Exit, Cycle, Continue, Redistribute, Arms, NoArm, Arm}
 
 -- what a place asks of an expression: one value, or a value at each tuple of positions, which may be the same at all
 pub data Asked : Type 0 where
@@ -46,6 +46,10 @@ ControlGives c = Gives OneValue 0 c.first × Gives OneValue 0 c.last × Gives On
 abbrev pub MaskedGives : SectionAssignment → Type 0
 MaskedGives x = SubscriptsGive 0 x.subscripts × Gives Values 0 x.right
 
+abbrev pub TransformationGives : Transformation → Type 0
+TransformationGives (CircularShift by) = Gives OneValue 0 by
+TransformationGives Transposition = ⊤
+
 abbrev pub IndexedGives : ℕ → ElementAssignment → Type 0
 IndexedGives indices x = AllGive OneValue indices x.subscripts × Gives OneValue indices x.right
 
@@ -64,6 +68,7 @@ abbrev mutual
   ScalarsAlone (AssignScalar k t) = Gives OneValue 0 t
   ScalarsAlone (AssignElement a ts t) = AllGive OneValue 0 ts × Gives OneValue 0 t
   ScalarsAlone (AssignSection a subs t) = SubscriptsGive 0 subs × Gives Values 0 t
+  ScalarsAlone (Transform x y how) = TransformationGives how
   ScalarsAlone (If arms other) = ArmsAlone arms × BlockAlone other
   ScalarsAlone (Do mark loop body) = ControlGives loop.control × BlockAlone body
   ScalarsAlone (Where mask body others) = Gives Values 0 mask × AllByRecursion MaskedGives body × AllByRecursion MaskedGives others

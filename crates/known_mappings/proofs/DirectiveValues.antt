@@ -5,7 +5,7 @@ use Rattle.std.specs.List.{AllByRecursion}
 use Rattle.std.proofs.lemmas.Bool.Decides.{nat_tests}
 use Rattle.op_tables.specs.declared.op.Op.{Op}
 use Rattle.op_tables.specs.declared.op.Op.TheVariants as op
-use Rattle.op_tables.specs.Arguments.{takes, is_reduction, is_inquiry, is_processor_count}
+use Rattle.op_tables.specs.Arguments.{takes, is_reduction, is_transformation, is_inquiry, is_processor_count}
 use Rattle.op_tables.specs.Operators.{operator_value}
 use Rattle.syntax_tree.specs.Expression.{Expression, Number, Truth, Name as Alone, Element, Call, Unary, Binary, Closed, One, Parts, End, More}
 use Rattle.expression_rules.specs.declared.dims.Dim.{Dim}
@@ -137,20 +137,21 @@ module _ (grid : List ℕ) (t u : SymbolTable) (known : (x : List ℕ) (s : Symb
       (takes o (count_of ps) ≡ true → are_inquired (types_and_ranks Directive u ps) ≡ true → is_inquiry o ≡ true →
       IsSettled (of_array (Some grid) o (named_first t ps) (values_after (Some grid) t ps))) →
       HasValue (type_and_rank Directive u (Call o ps)) → IsSettled (value (Some grid) t (Call o ps))
-  called_settled o ps all after h = by (takes o (count_of ps)) (is_processor_count o) (is_inquiry o) (is_reduction o) refl refl refl refl h
+  called_settled o ps all after h = by (takes o (count_of ps)) (is_processor_count o) (is_inquiry o) (is_reduction o) (is_transformation o) refl refl refl h
     where
-      by : (tk pc iq rd : Bool) → takes o (count_of ps) ≡ tk → is_processor_count o ≡ pc → is_inquiry o ≡ iq → is_reduction o ≡ rd →
+      by : (tk pc iq rd tr : Bool) → takes o (count_of ps) ≡ tk → is_processor_count o ≡ pc → is_inquiry o ≡ iq →
           HasValue (if not tk then None else (if pc then integer_scalar_if (true && are_integer_scalars (types_and_ranks Directive u ps))
           else (if iq then integer_scalar_if (are_inquired (types_and_ranks Directive u ps) && (true || is_of_array u ps))
           else (if rd then reduction o (types_and_ranks Directive u ps) else elemental o (types_and_ranks Directive u ps))))) →
           IsSettled (if iq then of_array (Some grid) o (named_first t ps) (values_after (Some grid) t ps)
-          else (if pc then processor_count (Some grid) (values (Some grid) t ps) else (if rd then Invalid else elemental_value o (values (Some grid) t ps))))
-      by false pc iq rd a b c d h = absurd (no_value h)
-      by true true true rd a b c d h = absurd (true≢false (sym b ∙ inquiry_counts_no o c))
-      by true false true rd a b c d h = after a (both _ true (if_scalar _ h)).0 c
-      by true true false rd a b c d h = count_settled grid o (count_of ps) _ b a (all (scalar_values _ (if_scalar _ h)))
-      by true false false true a b c d h = tt
-      by true false false false a b c d h = elemental_settled o (count_of ps) _ a (all (elemental_values o _ h))
+          else (if pc then processor_count (Some grid) (values (Some grid) t ps) else (if rd || tr then Invalid else elemental_value o (values (Some grid) t ps))))
+      by false pc iq rd tr a b c h = absurd (no_value h)
+      by true true true rd tr a b c h = absurd (true≢false (sym b ∙ inquiry_counts_no o c))
+      by true false true rd tr a b c h = after a (both _ true (if_scalar _ h)).0 c
+      by true true false rd tr a b c h = count_settled grid o (count_of ps) _ b a (all (scalar_values _ (if_scalar _ h)))
+      by true false false true tr a b c h = tt
+      by true false false false true a b c h = tt
+      by true false false false false a b c h = elemental_settled o (count_of ps) _ a (all (elemental_values o _ h))
 
   mutual
     pub settled : (e : Expression) → HasValue (type_and_rank Directive u e) → IsSettled (value (Some grid) t e)

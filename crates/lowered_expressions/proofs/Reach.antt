@@ -50,9 +50,10 @@ pub slot-set : (x : ℕ) (xs : List ℤ) (v : ℤ) → x < length xs → slot (s
 slot-set x xs v lt = get_or-set_same xs x v (pos 0) lt
 
 -- what a machine with so many rows has besides between two instructions, which no instruction of a program asks for: where the rows lie,
--- each of which has a layout, and what the last reduction gave
+-- each of which has a layout, how many parallel statements there were since the last Verdict, and what the last reduction gave
 pub record Idle (row_count : ℕ) : Type 0 where
   pub layouts : List Layout
+  pub parts : ℕ
   pub joined : ℤ
   pub laid : length layouts ≡ row_count
 
@@ -111,7 +112,7 @@ module _ (table : ArrayTable) (row_count : ℕ) (moves : ℕ → List NewMapping
     rows = rows;
     layouts = i.layouts;
     kept = None;
-    parts = 0;
+    parts = i.parts;
     joined = i.joined;
     line = [];
     printed = out;

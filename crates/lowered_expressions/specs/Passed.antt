@@ -19,7 +19,8 @@ use Rattle.machine_steps.specs.Machine.{Machine, step}
 use Rattle.node_code.specs.declared.nest.NestRole.{NestRole}
 use Rattle.node_code.specs.declared.nest.NestRole.TheVariants.{SetsMark}
 use Rattle.code_meaning.specs.Flat.{slot}
-use Rattle.code_meaning.specs.Forms.{selections_in, elemental_in}
+use Rattle.node_code.specs.Forms.{ArrayForm}
+use Rattle.code_meaning.specs.Forms.{selections_in, elemental_in, elemental_at}
 use Rattle.node_code.specs.Parallel.{When}
 use Rattle.code_meaning.specs.Parallel.{evaluation_extents}
 use Rattle.lowered_expressions.specs.WellFormed.{AreSubscripts, IsIndexed}
@@ -74,6 +75,10 @@ passed table (suc k) m = passed_now m ++ passed table k (step (meaning_of table)
 abbrev pub IsMaskCopy : ℕ → Option When → Type 0
 IsMaskCopy n mask = (w : When) → mask ≡ Some w → w.copy ≡ n
 
+-- by these slots, at each tuple of indices, one form is what the other is
+abbrev pub AreSameForms : List ℤ → ArrayForm → ArrayForm → Type 0
+AreSameForms slots form other = (indices : List ℤ) → elemental_at slots indices form ≡ elemental_at slots indices other
+
 -- where n names are declared, the instruction is that part of the line, or that redistribution: its constants and the slots that it names give what
 -- was evaluated once. `moves` says of a line which arrays its REDISTRIBUTE moves
 abbrev pub IsEvent : (ℕ → List NewMapping) → (n : ℕ) → Instruction → List ℤ → ℕ → Event → Type 0
@@ -87,7 +92,7 @@ IsEvent moves n (Reduce p r x) slots line event =
     (p.line ≡ line) × ((o : Op) × (event ≡ Reduced o (evaluation_extents p slots) (elemental_in slots p.form)) × (r ≡ reduction_of o))
 IsEvent moves n (ParForall p) slots line event =
     (p.line ≡ line) × ((beside : Option AnchorText) × (axes : List Sequence) × (ts : Terms) × (t : Term) × (event ≡ ElementsAssigned (is_some p.mask) beside axes p.array ts t)
-    × (selections_in slots p.over ≡ map Along axes) × (p.left ≡ index_subs ts) × (p.right ≡ index_form t) × IsMaskCopy n p.mask
+    × (selections_in slots p.over ≡ map Along axes) × (p.left ≡ index_subs ts) × AreSameForms slots p.right (index_form t) × IsMaskCopy n p.mask
     × AreSubscripts n ts × IsIndexed n t × IsBeside n p.beside beside)
 IsEvent moves n (ParForallCopy copy p) slots line event =
     (p.line ≡ line) × ((beside : Option AnchorText) × (axes : List Sequence) × (t : Term) × (event ≡ ForallMask beside axes t)

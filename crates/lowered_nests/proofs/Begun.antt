@@ -108,7 +108,7 @@ module _ (table : ArrayTable) (row_count : ℕ) (moves : ℕ → List NewMapping
   start = opened kinds s conds N
 
   abbrev pub machine_data : Idle row_count → Data Fault
-  machine_data i = record { rows = rows; layouts = i.layouts; kept = None; parts = 0 }
+  machine_data i = record { rows = rows; layouts = i.layouts; kept = None; parts = i.parts }
 
   -- ---- by the kinds of the code
 

@@ -4,7 +4,7 @@ use Rattle.array_meaning.specs.Terms.{Term, Number, Scalar, Index, Element, Sect
 use Rattle.array_meaning.specs.Faults.{◌>>=◌, with_more}
 use Rattle.array_meaning.specs.Elementals.{operated}
 use Rattle.array_meaning.specs.State.{State}
-use Rattle.array_meaning.specs.Statements.{Block, Done, Then, Statement, AssignScalar, AssignElement, AssignSection, If, Do, Unmarked, Outermost, Where, Forall, Print, Stop, Exit, Cycle, Continue, Redistribute, Arms, NoArm, Arm}
+use Rattle.array_meaning.specs.Statements.{Block, Done, Then, Statement, AssignScalar, AssignElement, AssignSection, Transform, If, Do, Unmarked, Outermost, Where, Forall, Print, Stop, Exit, Cycle, Continue, Redistribute, Arms, NoArm, Arm}
 use Rattle.op_tables.specs.Operators.{value_of}
 use Rattle.code_meaning.specs.Flat.{flat_value, flat_values, or_zero}
 use Rattle.program_code.specs.ExpressionCode.{index_flat, index_flats}
@@ -62,6 +62,7 @@ module _ (w : NestNames) (s : State) where
     )
     safe-in line round Continue ok x h = h
     safe-in line round (AssignSection a subs t) ok x h = absurd ok
+    safe-in line round (Transform target source how) ok x h = absurd ok
     safe-in line round (Do (Outermost m b) loop inner) ok x h = absurd ok
     safe-in line round (Where mask b others) ok x h = absurd ok
     safe-in line round (Forall controls mask b) ok x h = absurd ok

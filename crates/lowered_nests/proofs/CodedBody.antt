@@ -4,7 +4,7 @@ use Rattle.std.specs.Prelude.{◌&&◌}
 use Rattle.nest_syntax.specs.NestKinds.{Kind, has_copies}
 use Rattle.array_meaning.specs.Terms.{Term, Number, Scalar, Index, Element, Section, Apply, Reduce, Terms, NoTerm, More}
 use Rattle.array_meaning.specs.State.{State, scalar}
-use Rattle.array_meaning.specs.Statements.{Loop, Nest, Block, Done, Then, Statement, AssignScalar, AssignElement, AssignSection, If, Do, Where, Forall, Print, Stop, Exit, Cycle, Continue, Redistribute, Mark, Arms, NoArm, Arm}
+use Rattle.array_meaning.specs.Statements.{Loop, Nest, Block, Done, Then, Statement, AssignScalar, AssignElement, AssignSection, Transform, If, Do, Where, Forall, Print, Stop, Exit, Cycle, Continue, Redistribute, Mark, Arms, NoArm, Arm}
 use Rattle.array_meaning.specs.Iterations.{is_in, nest_indices}
 use Rattle.array_meaning.specs.Touches.{assigned_in, assigned_by, assigned_in_arms}
 use Rattle.node_code.specs.Forms.{Sub}
@@ -266,6 +266,7 @@ module _ (table : ArrayTable) (n : ℕ) (nest : Nest) (body : Block) (over : Lis
         )
     statement-coded free round h Continue keeps ok plain = tt
     statement-coded free round h (AssignSection a subs t) keeps ok plain = absurd keeps
+    statement-coded free round h (Transform x y how) keeps ok plain = absurd keeps
     statement-coded free round h (Where mask b others) keeps ok plain = absurd keeps
     statement-coded free round h (Forall controls mask b) keeps ok plain = absurd keeps
     statement-coded free round h (Print items) keeps ok plain = absurd keeps

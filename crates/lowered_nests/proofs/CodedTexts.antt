@@ -1,7 +1,7 @@
 -- The body that is made of a nest's block has the shape and the texts of which the laws of nests speak.
 use Rattle.std.proofs.Common.{ℕ, List, Bool, refl}
 use Rattle.array_meaning.specs.State.{State}
-use Rattle.array_meaning.specs.Statements.{Nest, Block, Done, Then, Statement, AssignScalar, AssignElement, AssignSection, If, Do, Unmarked, Outermost, Where, Forall, Print, Stop, Exit, Cycle, Continue, Redistribute, Arms, NoArm, Arm}
+use Rattle.array_meaning.specs.Statements.{Nest, Block, Done, Then, Statement, AssignScalar, AssignElement, AssignSection, Transform, If, Do, Unmarked, Outermost, Where, Forall, Print, Stop, Exit, Cycle, Continue, Redistribute, Arms, NoArm, Arm}
 use Rattle.node_code.specs.Forms.{Sub}
 use Rattle.code_meaning.specs.Instructions.{ArrayTable}
 use Rattle.program_code.specs.NestInstructions as forms
@@ -56,6 +56,7 @@ module _ (table : ArrayTable) (n : ℕ) (nest : Nest) (body : Block) (over : Lis
     same-in line round (Do (Outermost m b) loop inner) ok rest q h = absurd ok
     same-in line round Continue ok rest q h = h
     same-in line round (AssignSection a subs t) ok rest q h = absurd ok
+    same-in line round (Transform x y how) ok rest q h = absurd ok
     same-in line round (Where mask xs ys) ok rest q h = absurd ok
     same-in line round (Forall cs mask xs) ok rest q h = absurd ok
     same-in line round (Print items) ok rest q h = absurd ok

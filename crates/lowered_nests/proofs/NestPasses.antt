@@ -10,7 +10,7 @@ use Rattle.array_meaning.specs.declared.sections.Selection.TheVariants.{Along}
 use Rattle.array_meaning.specs.Faults.{Fault}
 use Rattle.array_meaning.specs.State.{State, scalar, set_scalar}
 use Rattle.array_meaning.specs.Terms.{Term, Number, Scalar, Index, Element, Section, Apply, Reduce, Terms, NoTerm, More}
-use Rattle.array_meaning.specs.Statements.{Loop, Nest, Block, Done, Then, Statement, AssignScalar, AssignElement, AssignSection, If, Do, Unmarked, Outermost, Where, Forall, Print, Stop, Exit, Cycle, Continue, Redistribute, Arms, NoArm, Arm}
+use Rattle.array_meaning.specs.Statements.{Loop, Nest, Block, Done, Then, Statement, AssignScalar, AssignElement, AssignSection, Transform, If, Do, Unmarked, Outermost, Where, Forall, Print, Stop, Exit, Cycle, Continue, Redistribute, Arms, NoArm, Arm}
 use Rattle.array_meaning.specs.Iterations.{is_in, values_of, nest_axes, nest_indices, turn_value, in_turns}
 use Rattle.statement_trail.specs.NestParts.{EnteredNest, NestPart, ScalarPart, ElementPart, ConditionPart, index_in, of_these, scalars_in, has_statement, conditions_in, conditions_by, conditions_in_arms, scalar_copy, condition_copy, in_trip, indices_after, indices_by, nest_anchor}
 use Rattle.nest_syntax.specs.Asked.{Asked, guard_asked, none_asked, tested_asked}
@@ -239,6 +239,7 @@ module _ (table : ArrayTable) (moves : ℕ → List NewMapping) (code : List Ins
   else-is round (Then l (AssignScalar k t) rest) ok = tt
   else-is round (Then l (AssignElement a ts t) rest) ok = tt
   else-is round (Then l (AssignSection a subs t) rest) ok = absurd ok.0
+  else-is round (Then l (Transform x y how) rest) ok = absurd ok.0
   else-is round (Then l (If arms other) rest) ok = tt
   else-is round (Then l (Do Unmarked loop inner) rest) ok = tt
   else-is round (Then l (Do (Outermost m b) loop inner) rest) ok = absurd ok.0
@@ -271,6 +272,7 @@ module _ (table : ArrayTable) (moves : ℕ → List NewMapping) (code : List Ins
     count-in l round (AssignScalar k t) ok rest = let e : count_nest rest ≡ 0 + count_nest rest = omega arith in e
     count-in l round (AssignElement a ts t) ok rest = let e : count_nest rest ≡ 0 + count_nest rest = omega arith in e
     count-in l round (AssignSection a subs t) ok rest = absurd ok
+    count-in l round (Transform x y how) ok rest = absurd ok
     count-in l round (If arms other) ok rest =
         let x = coded w s0 round other ok.1 in
         ap (λ c. c + count_nest rest) (count-arms round arms ok.0 (else_arm w x) (if has_statement other then 1 + conditions_in other else 0)
@@ -628,6 +630,7 @@ module _ (table : ArrayTable) (moves : ℕ → List NewMapping) (code : List Ins
           all-left-first round (w.copied_in t) ts ok.0.1.names ok.0.1.plain,
         )) has under (λ h u. next k (pc + length c) s st held few enough h u))
     statement-passes l round (AssignSection a subs t) ok rest U later guard k b pc s st le held guards few enough has under next = absurd ok
+    statement-passes l round (Transform x y how) ok rest U later guard k b pc s st le held guards few enough has under next = absurd ok
     statement-passes l round (If arms other) ok rest U later guard k b pc s st le held guards few enough has under next =
         let x = coded w s0 round other ok.1 in
         let as' = coded_arms w s0 round arms ok.0 (else_arm w x) in

@@ -189,7 +189,6 @@ module _ (table : ArrayTable) (row_count : ℕ) (moves : ℕ → List NewMapping
     memory = subst (λ m. IsPlacedMemory (nest_layout table over (nest_beside nest body)) slots w.place w.is_row kinds N start (nest_entries (finals n nest body) (stored n nest body) m) (d i)) (sym count-is)
         (memory table row_count moves code n many lie line pc v nest loop block body s slots rows h some i);
     empty = refl;
-    none_done = refl;
     apart = scalars-apart n ks conds (begun.are table row_count moves code n many lie line pc v nest loop block body s slots rows h some) kinds;
     few = few-finals;
     itself = layout-itself;

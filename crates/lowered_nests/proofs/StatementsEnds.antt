@@ -56,7 +56,7 @@ code_in n line pc v nest body = record {
 
 -- the machine's data, wherever the rows lie
 abbrev pub data_in : {row_count : ℕ} → Storage → Idle row_count → Data Fault
-data_in rows i = record { rows = rows; layouts = i.layouts; kept = None; parts = 0 }
+data_in rows i = record { rows = rows; layouts = i.layouts; kept = None; parts = i.parts }
 
 module _ (table : ArrayTable) (row_count : ℕ) (moves : ℕ → List NewMapping) (code : List Instruction) (n many : ℕ) where
   -- All that is asked at the entry, wherever the rows lie. `is_index` says which scalars are indices of the nest and of loops in it
@@ -108,7 +108,7 @@ module _ (table : ArrayTable) (row_count : ℕ) (moves : ℕ → List NewMapping
 
     -- one way in which the rows may lie
     first : Idle row_count
-    first = record { layouts = replicate row_count (table.copies [] None []); joined = pos 0; laid = length-replicate row_count (table.copies [] None []) }
+    first = record { layouts = replicate row_count (table.copies [] None []); parts = 0; joined = pos 0; laid = length-replicate row_count (table.copies [] None []) }
 
     ended-so : (one other : State) → r ≡ normal one → r ≡ normal other → one ≡ other
     ended-so one other e f = ap (λ (x : Run). x.state) (sym e ∙ f)
@@ -161,7 +161,7 @@ module _ (table : ArrayTable) (row_count : ℕ) (moves : ℕ → List NewMapping
       reach : Reaches table row_count moves code (nest_trail nest body s) (stands table row_count moves code pc slots rows s.printed) (stands table row_count moves code end slots' rows' s.printed)
       reach i =
           let a = (ends i).after in
-          let j : Idle row_count = record { layouts = a.data'.layouts; joined = i.joined; laid = a.laid ∙ i.laid } in
+          let j : Idle row_count = record { layouts = a.data'.layouts; parts = 0; joined = i.joined; laid = a.laid ∙ i.laid } in
           let m' : Machine Instruction Fault = stands table row_count moves code end slots' rows' s.printed j in (
             a.count',
             j,

@@ -117,7 +117,7 @@ module _ (table : ArrayTable) (row_count : ℕ) (moves : ℕ → List NewMapping
       (begun-at i).outside listed (begun.gives table row_count moves code n many lie line pc v nest loop block body s slots rows h some)
       (begun.anchored table row_count moves code n many lie line pc v nest loop block body s slots rows h some) h.holds.scalars ok (finals n nest body) (begun-at i).room
       (subst (HasAt code pc) (sym same-instructions) h.has)
-      (record { rows = rows; layouts = i.layouts; kept = None; parts = 0; joined = i.joined; line = []; printed = s.printed }) k quiet ends))
+      (record { rows = rows; layouts = i.layouts; kept = None; parts = i.parts; joined = i.joined; line = []; printed = s.printed }) k quiet ends))
 
   off-finals : (x : ℕ) → n ≤ x → NotAmong x (finals n nest body)
   off-finals x le = not-among n (scalars n nest body) (conditions n nest body) are (kinds_in n nest body) (scalars n nest body) 0 0 x (by_place (index_in (scalars n nest body) 0 x) refl)

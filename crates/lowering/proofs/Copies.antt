@@ -86,7 +86,7 @@ module _ (table : ArrayTable) (row_count : ℕ) (moves : ℕ → List NewMapping
     makes : Reaches table row_count moves code [] m0 m1
     makes i =
         let layout : Layout = table.copies i.layouts (anchor_in slots over beside) (evaluation_extents p slots) in
-        let j : Idle row_count = record { layouts = slice_set i.layouts n layout; joined = i.joined; laid = length-set i.layouts n layout ∙ i.laid } in (
+        let j : Idle row_count = record { layouts = slice_set i.layouts n layout; parts = i.parts; joined = i.joined; laid = length-set i.layouts n layout ∙ i.laid } in (
           1,
           j,
           one table row_count moves code pc slots rows s.printed (MakeCopy n p) has.0 i

@@ -27,9 +27,9 @@ use Rattle.code_meaning.specs.Forms.{elemental_in}
 use Rattle.code_meaning.specs.Parallel.{at_line, outcome_of, reads_at, value_by_reads, evaluation_extents, evaluation_size, evaluation_tuples, reduction_tuples, made_outcome, fold_of}
 use Rattle.node_code.specs.Parallel.{Evaluation}
 use Rattle.program_code.specs.ExpressionCode.{copied_evaluation, own_evaluation, reduce_code}
-use Rattle.lowered_expressions.proofs.Reach.{still, entries-more, Idle, HasAt, same-refl, same-set, slot-set, stands, one, Comes, comes-on}
+use Rattle.lowered_expressions.proofs.Reach.{still, entries-more, Idle, Place, HasAt, same-refl, same-set, slot-set, stands, one, Comes, comes-on}
 use Rattle.lowered_expressions.proofs.Terms.{HoldsScalars, HoldsArrays}
-use Rattle.lowered_expressions.proofs.Keeping.{IsOutcome, Keeps, keeps}
+use Rattle.lowered_expressions.proofs.Keeping.{IsOutcome, Keeps, keeps, kept-none, kept-some}
 use Rattle.lowered_expressions.proofs.Scatter.{NamesBelow, values_of, value-of-reads, space-size, space-counted}
 use Rattle.lowering.proofs.Masks.{shape-first}
 
@@ -124,11 +124,21 @@ module _ (table : ArrayTable) (row_count : ℕ) (moves : ℕ → List NewMapping
       control : Control Fault
       control = record { at = pc + 1; slots = slots; status = Running }
 
-      values : ℕ → Option (Kept Fault) → ℤ → Idle row_count → Machine Instruction Fault
-      values k kept v i = record (stands table row_count moves code (pc + 1) slots rows out i) { substep = k; kept = kept; parts = k; joined = v }
+      joined : ℕ → ℤ
+      joined = folded (fold_of (reduction_of o).join) outcome
 
-      judged : Option (Kept Fault) → ℤ → Idle row_count → Machine Instruction Fault
-      judged kept v i = record (stands table row_count moves code (pc + 1) slots rows out i) { control = verdict_control kept stay control; substep = 2; joined = v }
+      begun : Place row_count
+      begun = stands table row_count moves code (pc + 1) slots rows out
+
+      -- with the values of so many tuples, and after the verdict
+      valued : ℕ → Place row_count
+      valued k i = record (begun i) { substep = 1; kept = keep outcome i.parts k None; parts = i.parts + 1; joined = joined k }
+
+      judged : Option (Kept Fault) → ℤ → Place row_count
+      judged kept v i = record (begun i) { control = verdict_control kept stay control; substep = 2; parts = 0; joined = v }
+
+      left : ℤ → Idle row_count → Idle row_count
+      left v i = record { layouts = i.layouts; parts = 0; joined = v; laid = i.laid }
 
       entry : Trail
       entry = reached line s (Reduced o ns r)
@@ -145,26 +155,26 @@ module _ (table : ArrayTable) (row_count : ℕ) (moves : ℕ → List NewMapping
         tt,
       )
 
-      first-step : space_count ns ≡ count → (i : Idle row_count) → step (meaning_of table) (stands table row_count moves code (pc + 1) slots rows out i) ≡ values 1 (keep outcome 0 count None) (folded (fold_of (reduction_of o).join) outcome count) i
-      first-step all i = ap (λ z. step_by (instr_of (meaning_of table) z) (stands table row_count moves code (pc + 1) slots rows out i)) has.1.0
-          ∙ ap (λ k. values 1 (keep outcome 0 k None) (folded (fold_of (reduction_of o).join) outcome k) i) (ap space_count (own-shape n table.shapes s rows arrays line form None slots r right named) ∙ all)
+      first-step : space_count ns ≡ count → (i : Idle row_count) → step (meaning_of table) (begun i) ≡ valued count i
+      first-step all i = ap (λ z. step_by (instr_of (meaning_of table) z) (begun i)) has.1.0
+          ∙ ap (λ k. valued k i) (ap space_count (own-shape n table.shapes s rows arrays line form None slots r right named) ∙ all)
 
-      two : space_count ns ≡ count → (i : Idle row_count) → steps (meaning_of table) 2 (stands table row_count moves code (pc + 1) slots rows out i)
-          ≡ judged (keep outcome 0 count None) (folded (fold_of (reduction_of o).join) outcome count) i
-      two all i =
-          ap (λ m. step (meaning_of table) m) (first-step all i)
-          ∙ ap (λ z. step_by (instr_of (meaning_of table) z) (values 1 (keep outcome 0 count None) (folded (fold_of (reduction_of o).join) outcome count) i)) has.1.0
+      two : space_count ns ≡ count → (kept : Option (Kept Fault)) (i : Idle row_count) → keep outcome i.parts count None ≡ kept
+          → steps (meaning_of table) 2 (begun i) ≡ judged kept (joined count) i
+      two all kept i e =
+          ap (λ m. step (meaning_of table) m) (first-step all i) ∙ ap (λ z. step_by (instr_of (meaning_of table) z) (valued count i)) has.1.0
+          ∙ ap (λ k. judged k (joined count) i) e
 
-      two-noted : space_count ns ≡ count → (i : Idle row_count) → passed table 2 (stands table row_count moves code (pc + 1) slots rows out i) ≡ noted ∷ []
+      two-noted : space_count ns ≡ count → (i : Idle row_count) → passed table 2 (begun i) ≡ noted ∷ []
       two-noted all i =
-          ap (λ z. note_at 0 z slots ++ (passed_now (step (meaning_of table) (stands table row_count moves code (pc + 1) slots rows out i)) ++ [])) has.1.0
+          ap (λ z. note_at 0 z slots ++ (passed_now (step (meaning_of table) (begun i)) ++ [])) has.1.0
           ∙ ap (λ m. noted ∷ (passed_now m ++ [])) (first-step all i)
 
-      two-those : space_count ns ≡ count → (i : Idle row_count) → IsTrail moves (passed table 2 (stands table row_count moves code (pc + 1) slots rows out i)) entry
+      two-those : space_count ns ≡ count → (i : Idle row_count) → IsTrail moves (passed table 2 (begun i)) entry
       two-those all i = subst (λ l. IsTrail moves l entry) (sym (two-noted all i)) that
 
-      three : (v : ℤ) (i : Idle row_count) → steps (meaning_of table) 1 (judged None v i) ≡ stands table row_count moves code (pc + 1 + 1) (slice_set slots x v) rows out
-          (record { layouts = i.layouts; joined = v; laid = i.laid })
+      three : (v : ℤ) (i : Idle row_count)
+          → steps (meaning_of table) 1 (judged None v i) ≡ stands table row_count moves code (pc + 1 + 1) (slice_set slots x v) rows out (left v i)
       three v i = ap (λ z. step_by (instr_of (meaning_of table) z) (judged None v i)) has.1.0
 
       by_each : space_count ns ≡ count → (q : Result (List ℤ) Cause) → Keeps line outcome q count → Folds line o outcome q count → Comes table row_count moves code line rows out entry (pc + 1) (pc + 2) b slots P
@@ -173,19 +183,20 @@ module _ (table : ArrayTable) (row_count : ℕ) (moves : ℕ → List NewMapping
           let v : ℤ = reduced o vs in
           let e : pc + 1 + 1 ≡ pc + 2 = omega arith in (
             slice_set slots x v,
-            (λ i. (
-              3,
-              record { layouts = i.layouts; joined = v; laid = i.laid },
-              ap (step (meaning_of table)) (two all i ∙ ap (λ k. judged k (folded (fold_of (reduction_of o).join) outcome count) i) kept ∙ ap (λ z. judged None z i) joins) ∙ three v i
-                  ∙ ap (λ at. stands table row_count moves code at (slice_set slots x v) rows out (record { layouts = i.layouts; joined = v; laid = i.laid })) e,
-              entries-more table row_count moves code 2 1 (stands table row_count moves code (pc + 1) slots rows out i) (judged None v i) entry []
-                  (two all i ∙ ap (λ k. judged k (folded (fold_of (reduction_of o).join) outcome count) i) kept ∙ ap (λ z. judged None z i) joins) (two-those all i) tt,
-            )),
+            (λ i.
+                let there : steps (meaning_of table) 2 (begun i) ≡ judged None v i = two all None i (kept-none outcome i.parts count kept)
+                ∙ ap (λ z. judged None z i) joins in (
+                  3,
+                  left v i,
+                  ap (step (meaning_of table)) there ∙ three v i ∙ ap (λ at. stands table row_count moves code at (slice_set slots x v) rows out (left v i)) e,
+                  entries-more table row_count moves code 2 1 (begun i) (judged None v i) entry [] there (two-those all i) tt,
+                )),
             same-set b x slots v le,
             slot-set x slots v lt,
           )
       by_each all (Err c) kept joins = λ i.
-          (judged (Some kept.0) (folded (fold_of (reduction_of o).join) outcome count) i, (2, two all i ∙ ap (λ k. judged k (folded (fold_of (reduction_of o).join) outcome count) i) kept.1, two-those all i), ap Faulted kept.2, refl, refl)
+          let here = kept-some outcome i.parts count kept.0 kept.1 in
+          (judged (Some here.0) (joined count) i, (2, two all (Some here.0) i here.1, two-those all i), ap Faulted (here.2 ∙ kept.2), refl, refl)
 
       limits : (q : Result ℕ Cause) → space_size ns (sections r) ≡ q → (i : Idle row_count)
           → steps (meaning_of table) 1 (stands table row_count moves code pc slots rows out i)

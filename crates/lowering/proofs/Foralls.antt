@@ -20,8 +20,8 @@ use Rattle.array_meaning.specs.Statements.{ElementAssignment, Forall}
 use Rattle.array_meaning.specs.Faults.{Cause, Fault, ◌>>=◌, fails, with_more, at_tuple}
 use Rattle.array_meaning.specs.State.{State}
 use Rattle.array_meaning.specs.Runs.{Run, normal, then_do, one_step, with_value, Completion, Normal, Exited, Cycled, Stopped}
-use Rattle.array_meaning.specs.Sections.{extents, positions, subscripts_at}
-use Rattle.array_meaning.specs.Elementals.{value_at, each}
+use Rattle.array_meaning.specs.Sections.{extents, subscripts_at}
+use Rattle.array_meaning.specs.Elementals.{each}
 use Rattle.array_meaning.specs.Expressions.{value, values, selections, index_values, all_index_values}
 use Rattle.array_meaning.specs.ArrayAssignments.{Mask, store_at, if_true, mask_of}
 use Rattle.array_meaning.specs.Forall.{index_extents, indices_at, all_subscripts, is_index_in_limits, is_forall_in_limits, is_one_to_one, check, check_limits, check_one_to_one, mask_over, assign_forall, assign_all_forall, run_forall}
@@ -52,9 +52,10 @@ use Rattle.std.proofs.lemmas.Option.{same_Some}
 use Rattle.lowered_expressions.proofs.Reach.{still, comes-as, Idle, HasAt, has-front, has-back, same-refl, stands, one, Comes}
 use Rattle.lowered_expressions.proofs.Terms.{HoldsArrays}
 use Rattle.lowered_expressions.proofs.Scatter.{Does, values_of, value-of-reads, counted-if}
-use Rattle.lowering.proofs.Storing.{masked-does, stores-go}
+use Rattle.lowering.proofs.Storing.{stores-go}
+use Rattle.lowering.proofs.IndexedStores.{extents-are, indices-are, indexed-does}
 use Rattle.lowering.proofs.Copies.{copy-goes}
-use Rattle.lowered_expressions.proofs.Indexed.{axes-extents, all-listed, all-in-forall, subs-are, indexed-value, indexed-names, limits-are, one-to-one-are}
+use Rattle.lowered_expressions.proofs.Indexed.{axes-extents, all-listed, all-in-forall, indexed-value, indexed-names, limits-are, one-to-one-are}
 
 -- ---- the header
 
@@ -237,12 +238,6 @@ module _ (table : ArrayTable) (row_count : ℕ) (moves : ℕ → List NewMapping
     gives-kept : (copy : Option (List ℤ)) (slots slots1 : List ℤ) → Gives slots → Kept table row_count moves code n many copy b1 slots slots1 → Gives slots1
     gives-kept copy slots slots1 gives kept = sym (header-kept n b b1 controls slots slots1 le (omega (arith, room)) kept) ∙ gives
 
-    extents-are : (slots : List ℤ) → Gives slots → extents (selections_in slots over) ≡ ns
-    extents-are slots gives = ap extents gives ∙ axes-extents axes
-
-    indices-are : (slots : List ℤ) → Gives slots → (t : ℕ) → indices_in over slots t ≡ indices_at axes t
-    indices-are slots gives t = ap (λ ds. subscripts_at ds (positions (extents ds) t)) gives ∙ ap (λ ms. subscripts_at (map Along axes) (positions ms t)) (axes-extents axes)
-
     -- ---- limits
 
     all-one-to-one : (copy : Option (List ℤ)) (xs : List ElementAssignment) (pc : ℕ) (slots : List ℤ) (rows : Storage) (s : State) → AreIndexedAssignments n xs
@@ -264,7 +259,7 @@ module _ (table : ArrayTable) (row_count : ℕ) (moves : ℕ → List NewMapping
         (one_is_to_one (product ns == 0) ns x s) (all_one_to_one (product ns == 0) ns xs)
         (test-goes copy x.line pc b1 (OneToOne x.line over (map index_flat (list_of x.subscripts))) (one_to_one over (map index_flat (list_of x.subscripts)))
         ((product ns == 0) || is_one_to_one s (list_of x.subscripts) 0 ns) NotOneToOne slots rows s has.0 refl
-        (ap (λ ms. unless_empty ms (is_one_to_one (slots_state slots) (map term_of (map index_flat (list_of x.subscripts))) 0 ms) NotOneToOne) (extents-are slots gives)
+        (ap (λ ms. unless_empty ms (is_one_to_one (slots_state slots) (map term_of (map index_flat (list_of x.subscripts))) 0 ms) NotOneToOne) (extents-are over axes slots gives)
         ∙ ap (λ t. unless_empty ns t NotOneToOne) (one-to-one-are n s slots holds.scalars 0 (list_of x.subscripts) ns (all-listed n x.subscripts ok.1))) refl holds)
         (λ slots1 rows1 s1 kept holds1. all-one-to-one copy xs (pc + 1) slots1 rows1 s1 ok.3 has.1 holds1 (gives-kept copy slots slots1 gives kept))))
 
@@ -287,7 +282,7 @@ module _ (table : ArrayTable) (row_count : ℕ) (moves : ℕ → List NewMapping
         (goes-then-kept table row_count moves code n many copy leave again entry (forall_trail (is_some when) beside axes (product ns) m xs) (pc + 2) (pc + 2 + length cs) b1 slots (stands table row_count moves code pc slots rows s.printed)
         (one_step x.line s (assign_forall axes (product ns) m x s)) (assign_all_forall axes (product ns) m xs)
         (stores-go table row_count moves code n many copy leave again (ParForall p) (forall_tuples table.shapes p) (forall_spot table.shapes p) refl x.line x.array b1 pc ok.0
-        (has.0, (has.1.0, tt)) slots rows s holds (product ns) (ap space_count (extents-are slots gives) ∙ all) (indices_at axes) at_a_tuple (λ u lt. does u) entry those)
+        (has.0, (has.1.0, tt)) slots rows s holds (product ns) (ap space_count (extents-are over axes slots gives) ∙ all) (indices_at axes) at_a_tuple (λ u lt. does u) entry those)
         (λ slots1 rows1 s1 kept holds1. assigns-all all copy when beside m masks anchored asked xs (pc + 2) slots1 rows1 s1 ok.3 at_rest holds1 (gives-kept copy slots slots1 gives kept)))
       where
         cs : List Instruction
@@ -319,7 +314,7 @@ module _ (table : ArrayTable) (row_count : ℕ) (moves : ℕ → List NewMapping
                 refl,
                 gives,
                 refl,
-                refl,
+                (λ indices. refl),
                 (λ w e. masks w e ∙ sym holds.places),
                 subst (λ k. AreSubscripts k x.subscripts) (sym holds.places) ok.1,
                 subst (λ k. IsIndexed k x.right) (sym holds.places) ok.2,
@@ -341,15 +336,8 @@ module _ (table : ArrayTable) (row_count : ℕ) (moves : ℕ → List NewMapping
             (by_values y (values_of rows (mask_reads when u ++ reads_at table.shapes y (elemental_at slots y p.right))) (length (mask_reads when u)))
             (at_tuple y (if_true (m u) (values y s x.subscripts >>= (λ is. store_at s x.array is (value y s x.right)))))
         does-at u y =
-            let ds = selections_at slots y p.left in
-            let r = elemental_at slots y p.right in
-            let stored : store_at s x.array (subscripts_at ds y) (value_at s y r) ≡ (values y s x.subscripts >>= (λ is. store_at s x.array is (value y s x.right))) =
-            ap (store_at s x.array (subscripts_at ds y)) (indexed-value n s slots holds.scalars y x.right ok.2)
-            ∙ sym (ap (λ q. q >>= (λ is. store_at s x.array is (value y s x.right))) (subs-are n s slots holds.scalars y y x.subscripts ok.1)) in
-            subst (λ q. Does x.line x.array (spot_of table.shapes x.array (subscripts_at ds y))
-            (by_values y (values_of rows (mask_reads when u ++ reads_at table.shapes y r)) (length (mask_reads when u))) (at_tuple y (if_true (m u) q))) stored
-            (masked-does n table.shapes s rows holds.arrays y x.line x.array ds r when u (m u) ok.0 (indexed-names n s slots holds.scalars y x.right ok.2)
-            (λ values. asked s slots rows holds u values))
+            indexed-does n table.shapes s slots rows holds.scalars holds.arrays x.line x.array x.subscripts x.right ok.0 ok.1 ok.2 when u (m u) (λ values. asked s slots rows holds u values)
+            y (elemental_at slots y p.right) refl
 
         does : (u : ℕ) → Does x.line x.array (forall_spot table.shapes p slots u) (machine.outcome_of (forall_tuples table.shapes p) slots (read rows) u)
             (at_tuple (indices_at axes u) (at_a_tuple u))
@@ -357,7 +345,7 @@ module _ (table : ArrayTable) (row_count : ℕ) (moves : ℕ → List NewMapping
             subst (λ y. Does x.line x.array (spot_of table.shapes x.array (subscripts_at (selections_at slots y p.left) y))
             (by_values y (values_of rows (mask_reads when u ++ reads_at table.shapes y (elemental_at slots y p.right))) (length (mask_reads when u)))
             (at_tuple (indices_at axes u) (at_a_tuple u)))
-            (sym (indices-are slots gives u)) (does-at u (indices_at axes u))
+            (sym (indices-are over axes slots gives u)) (does-at u (indices_at axes u))
 
     -- ---- the mask
 
@@ -387,7 +375,7 @@ module _ (table : ArrayTable) (row_count : ℕ) (moves : ℕ → List NewMapping
           (with_value line s (each (indices_at axes) (λ u. value (indices_at axes u) s t) (product ns)) (λ vs. assign_all_forall axes (product ns) (mask_of vs) body s))
           (ap (λ T. entry ++ T) (sym (after-made (each (indices_at axes) (λ u. value (indices_at axes u) s t) (product ns)) mask_of (λ m. forall_trail true beside axes (product ns) m body s))))
           (copy-goes table row_count moves code n many leave again sized line b1 pc to (index_form t) over (forall_beside body) (ParForallCopy n p) (forall_mask_tuples table.shapes p) refl
-          (has.0, (has.1.0, (has.1.1.0, tt))) slots rows s holds ns (extents-are slots gives) (ap space_count (extents-are slots gives) ∙ all) all (indices_at axes)
+          (has.0, (has.1.0, (has.1.1.0, tt))) slots rows s holds ns (extents-are over axes slots gives) (ap space_count (extents-are over axes slots gives) ∙ all) all (indices_at axes)
           (λ u. value (indices_at axes u) s t)
           does entry those made (λ vs. assign_all_forall axes (product ns) (mask_of vs) body s) goes)))
         where
@@ -444,7 +432,7 @@ module _ (table : ArrayTable) (row_count : ℕ) (moves : ℕ → List NewMapping
 
           does : (rows1 : Storage) → HoldsArrays n table.shapes s rows1 → (u : ℕ) → machine.outcome_of (forall_mask_tuples table.shapes p) slots (read rows1) u
               ≡ outcome_of (at_line line (at_tuple (indices_at axes u) (value (indices_at axes u) s t)))
-          does rows1 arrays u = does-at rows1 arrays (indices_in over slots u) ∙ ap (λ y. outcome_of (at_line line (at_tuple y (value y s t)))) (indices-are slots gives u)
+          does rows1 arrays u = does-at rows1 arrays (indices_in over slots u) ∙ ap (λ y. outcome_of (at_line line (at_tuple y (value y s t)))) (indices-are over axes slots gives u)
 
           asked : (vs : List ℤ) (s1 : State) (slots1 : List ℤ) (rows1 : Storage) → Holds table row_count moves code n many (Some vs) s1 slots1 rows1 → (u : ℕ) (values : List ℤ)
               → is_asked (Some (where_true n true)) (values_of rows1 (mask_reads (Some (where_true n true)) u) ++ values) ≡ mask_of vs u

@@ -3,7 +3,7 @@ use Rattle.std.proofs.Common.{◌≡◌, ℕ, ◌<◌, List, [], ◌∷◌, Bool
 use Rattle.std.specs.List.{AllByRecursion}
 use Rattle.nest_syntax.specs.NestKinds.{Kind, kind_of}
 use Rattle.array_meaning.specs.Terms.{Term, Number, Scalar, Index, Element, Section, Apply, Reduce, Terms, NoTerm, More}
-use Rattle.array_meaning.specs.Statements.{Loop, Nest, Block, Done, Then, Statement, AssignScalar, AssignElement, AssignSection, If, Do, Where, Forall, Print, Stop, Exit, Cycle, Continue, Redistribute, Mark, Unmarked, Arms, NoArm, Arm}
+use Rattle.array_meaning.specs.Statements.{Loop, Nest, Block, Done, Then, Statement, AssignScalar, AssignElement, AssignSection, Transform, If, Do, Where, Forall, Print, Stop, Exit, Cycle, Continue, Redistribute, Mark, Unmarked, Arms, NoArm, Arm}
 use Rattle.nest_items.specs.Settled.{without}
 use Rattle.nest_items.specs.Standing.{IsFixedTerm, AreFixedTerms, Stands, AllStand}
 use Rattle.nest_items.specs.NestForm.{IsKeptLoop, BlockKeeps, StatementKeeps, ArmsKeep, LoopsKeep}
@@ -53,6 +53,7 @@ module _ (n : ℕ) (kinds : ℕ → Kind) where
     nest_statement free (AssignScalar k t) keeps ok = nest_term free (Some k) t keeps.1 ok.1
     nest_statement free (AssignElement a ts t) keeps ok = (all_of_scalars free ts keeps.1 ok.1, nest_term free None t keeps.2 ok.2)
     nest_statement free (AssignSection a subs t) keeps ok = tt
+    nest_statement free (Transform x y how) keeps ok = tt
     nest_statement free (If arms other) keeps ok = (nest_arms free arms keeps.0 ok.0, nest_block free other keeps.1 ok.1)
     nest_statement free (Do mark loop body) keeps ok = (nest_loop free mark loop keeps.0 ok.0 ok.1, nest_block (without free loop.index) body keeps.1 ok.2)
     nest_statement free (Where mask body others) keeps ok = tt
@@ -78,6 +79,7 @@ module _ (n : ℕ) (kinds : ℕ → Kind) where
     no_nest_in free (AssignScalar k t) keeps = tt
     no_nest_in free (AssignElement a ts t) keeps = tt
     no_nest_in free (AssignSection a subs t) keeps = tt
+    no_nest_in free (Transform x y how) keeps = tt
     no_nest_in free (If arms other) keeps = (no_nest_in_arms free arms keeps.0, no_nest free other keeps.1)
     no_nest_in free (Do mark loop body) keeps = subst (λ m. HasForms (Do m loop body)) (sym keeps.0.unmarked) (no_nest (without free loop.index) body keeps.1)
     no_nest_in free (Where mask body others) keeps = tt

@@ -23,6 +23,7 @@ use Rattle.lowered_expressions.specs.WellFormed.{IsWellFormedBlock}
 use Rattle.nest_items.specs.BlockForms.{BlockHasForms}
 use Rattle.fitting_states.specs.FittingStates.{InitialValuesFit, BlockFits}
 use Rattle.fitting_states.proofs.Starts.{initial_fits}
+use Rattle.lowering.specs.Ranks.{BlockKeepsRanks, declared_shapes}
 use Rattle.lowering.specs.Lowered.{opening, EndsAs, IsEnd, IsLeft, IsTable, MachineHas}
 use Rattle.lowering.proofs.Programs.{program-ends}
 
@@ -46,14 +47,14 @@ end-is n m s (runs.Faulted f) h = (h.1, h.0)
 pub outcome-is : (names : List Entry) (room : ℕ) (moves : ℕ → List NewMapping) (body : syntax.Block) (table : ArrayTable) (layouts : List Layout)
     → IsTable (initial_state names) table → block_copies (length names) (resolved_block names body) ≤ room → length layouts ≡ length names + room
     → IsWellFormedBlock (length names) (resolved_block names body) → BlockHasForms (resolved_block names body)
-    → BlockFits (resolved_block names body) → InitialValuesFit names
+    → BlockKeepsRanks (declared_shapes (initial_state names)) (resolved_block names body) → BlockFits (resolved_block names body) → InitialValuesFit names
     → MachineHas (length names) table (opening (length names) room moves (resolved_block names body) (initial_state names) layouts) (outcome names body)
-outcome-is names room moves body table layouts is-table roomy laid ok forms fit values =
+outcome-is names room moves body table layouts is-table roomy laid ok forms ranked fit values =
     let n : ℕ = length names in
     let block : Block = resolved_block names body in
     let s : State = initial_state names in
     let scalars : length s.scalars ≡ n = length-map names (λ (e : Entry). initial_scalar e.what) in
     let arrays : length s.arrays ≡ n = length-map names (λ (e : Entry). initial_array e.what) in
-    let ends = program-ends table n room moves block s (record { scalars = scalars; arrays = arrays }) is-table roomy fit (initial_fits names values) layouts laid ok forms in
+    let ends = program-ends table n room moves block s (record { scalars = scalars; arrays = arrays }) is-table roomy fit (initial_fits names values) layouts laid ok forms ranked in
     let is = end-is n (steps (meaning_of table) ends.0 (opening n room moves block s layouts)) (run_block block s).state (run_block block s).completion ends.1 in
     (ends.0, is.0, is.1)

@@ -20,6 +20,7 @@ use Rattle.program_code.specs.StatementCode.{block_copies, block_slots, block_co
 use Rattle.lowered_expressions.specs.WellFormed.{IsWellFormedBlock}
 use Rattle.nest_items.specs.BlockForms.{BlockHasForms}
 use Rattle.fitting_states.specs.FittingStates.{StateFits, BlockFits}
+use Rattle.lowering.specs.Ranks.{BlockKeepsRanks, declared_shapes}
 use Rattle.lowering.specs.Lowered.{IsState, IsTable, opening, IsLeft, EndsAs, MachineEnds, MachinePasses}
 use Rattle.statement_trail.specs.Trail.{Trail, block_trail}
 use Rattle.lowered_expressions.specs.Passed.{passed, IsTrail}
@@ -98,9 +99,11 @@ module _ (table : ArrayTable) (n room : ℕ) (moves : ℕ → List NewMapping) (
   abbrev entries : Trail
   entries = block_trail body s
 
-  pub program-passes : (layouts : List Layout) → length layouts ≡ row_count → IsWellFormedBlock n body → BlockHasForms body → MachinePasses n table moves (opening n room moves body s layouts) (run_block body s) (block_trail body s)
-  program-passes layouts laid ok forms = by_completion r.completion
-      (block-goes table row_count moves code n many declared lie body n 2 1 1 slots rows s ok forms fit fits (omega (arith, roomy)) (has-front code 2 (block_code n moves body n 2 1 1) (Jump 1 ∷ []) all.1.1) (omega arith)
+  pub program-passes : (layouts : List Layout) → length layouts ≡ row_count → IsWellFormedBlock n body → BlockHasForms body → BlockKeepsRanks (declared_shapes s) body
+      → MachinePasses n table moves (opening n room moves body s layouts) (run_block body s) (block_trail body s)
+  program-passes layouts laid ok forms ranked = by_completion r.completion
+      (block-goes table row_count moves code n many declared lie body n 2 1 1 slots rows s ok forms
+      (subst (λ shapes. BlockKeepsRanks shapes body) (sym tabled.shapes) ranked) fit fits (omega (arith, roomy)) (has-front code 2 (block_code n moves body n 2 1 1) (Jump 1 ∷ []) all.1.1) (omega arith)
       (omega arith) holds)
     where
       r : Run
@@ -113,7 +116,7 @@ module _ (table : ArrayTable) (n room : ℕ) (moves : ℕ → List NewMapping) (
       m0 = stands table row_count moves code 0 slots rows s.printed
 
       i0 : Idle row_count
-      i0 = record { layouts = layouts; joined = pos 0; laid = laid }
+      i0 = record { layouts = layouts; parts = 0; joined = pos 0; laid = laid }
 
       begin : Place row_count
       begin = stands table row_count moves code 2 slots rows s.printed
@@ -158,6 +161,6 @@ module _ (table : ArrayTable) (n room : ℕ) (moves : ℕ → List NewMapping) (
           let e : steps (meaning_of table) (b.1.0 + a.0) (m0 i0) ≡ b.0 = steps-more table row_count moves code a.0 b.1.0 (m0 i0) ∙ ap (steps (meaning_of table) b.1.0) a.2 ∙ b.1.1 in
           (b.1.0 + a.0, rw (e) (b.2, b.3, b.4), entries-more table row_count moves code a.0 b.1.0 (m0 i0) (begin a.1) [] entries a.2 a.3 b.1.2)
 
-  pub program-ends : (layouts : List Layout) → length layouts ≡ row_count → IsWellFormedBlock n body → BlockHasForms body
+  pub program-ends : (layouts : List Layout) → length layouts ≡ row_count → IsWellFormedBlock n body → BlockHasForms body → BlockKeepsRanks (declared_shapes s) body
       → MachineEnds n table (opening n room moves body s layouts) (run_block body s)
-  program-ends layouts laid ok forms = let p = program-passes layouts laid ok forms in (p.0, p.1)
+  program-ends layouts laid ok forms ranked = let p = program-passes layouts laid ok forms ranked in (p.0, p.1)

@@ -10,7 +10,7 @@ use Rattle.array_meaning.specs.Expressions.{value, values, index_values}
 use Rattle.array_meaning.specs.Faults.{Cause, ◌>>=◌}
 use Rattle.array_meaning.specs.Runs.{Completion, Normal, Cycled, Run}
 use Rattle.array_meaning.specs.State.{State, place_in, set_scalar}
-use Rattle.array_meaning.specs.Statements.{Loop, Nest, Block, Done, Then, Statement, AssignScalar, AssignElement, AssignSection, If, Do, Where, Forall, Print, Stop, Exit, Cycle, Continue, Redistribute, Unmarked, Arms, NoArm, Arm}
+use Rattle.array_meaning.specs.Statements.{Loop, Nest, Block, Done, Then, Statement, AssignScalar, AssignElement, AssignSection, Transform, If, Do, Where, Forall, Print, Stop, Exit, Cycle, Continue, Redistribute, Unmarked, Arms, NoArm, Arm}
 use Rattle.array_meaning.specs.Terms.{Term, Number, Scalar, Index, Element, Section, Apply, Reduce, Terms, NoTerm, More, Control}
 use Rattle.statement_trail.specs.Trail.{Trail, after_value, after_run, after_iteration, value_trail, values_trail, control_trail, iterate_trail, trail, arms_trail, block_trail}
 use Rattle.nest_items.specs.BlockForms.{HasForm}
@@ -134,6 +134,7 @@ module _ (kinds : ℕ → Kind) (all : ℕ → Bool) where
         (loop-none free loop body line s (subst (λ m. IsKeptLoop kinds free m loop) keeps.0.unmarked keeps.0) (block-none (without free loop.index) body keeps.1 text.1))
     statement-none free Continue keeps text line s = refl
     statement-none free (AssignSection a subs t) keeps text line s = absurd keeps
+    statement-none free (Transform x y how) keeps text line s = absurd keeps
     statement-none free (Where mask b others) keeps text line s = absurd keeps
     statement-none free (Forall controls mask b) keeps text line s = absurd keeps
     statement-none free (Print items) keeps text line s = absurd keeps

@@ -11,6 +11,8 @@ use Rattle.mappings.specs.declared.mapping.Mapping.{Mapping}
 use Rattle.lowering.proofs.Printing.{all_bytes, prints-line}
 use Rattle.lowered_expressions.specs.WellFormed.{AreItems, IsControl, IsWellFormed, AreWellFormedArms, IsWellFormedBlock}
 use Rattle.lowering.proofs.Foralls.{forall-goes}
+use Rattle.lowering.proofs.Transforms.{transform-goes}
+use Rattle.lowering.specs.Ranks.{KeepsRanks, ArmsKeepRanks, BlockKeepsRanks}
 use Rattle.array_meaning.specs.Execution.{item_bytes, run, run_arms, run_block, iterate, all_item_bytes, print}
 use Rattle.array_meaning.specs.Expressions.{value, index_values}
 use Rattle.array_meaning.specs.Faults.{Cause, ◌>>=◌, fails}
@@ -21,7 +23,7 @@ use Rattle.array_meaning.specs.NestEntry.{entered}
 use Rattle.array_meaning.specs.declared.faults.FaultKind.TheVariants.{ZeroStride}
 use Rattle.array_meaning.specs.Sections.{sequence, sequence_of, value_count}
 use Rattle.array_meaning.specs.State.{State}
-use Rattle.array_meaning.specs.Statements.{Item, Value, Elements, Loop, Nest, Mark, Unmarked, Outermost, Block, Done, Then, Statement, AssignScalar, AssignElement, AssignSection, If, Do, Where, Forall, Stop, Exit, Cycle, Continue, Redistribute, Arms, NoArm, Arm}
+use Rattle.array_meaning.specs.Statements.{Item, Value, Elements, Loop, Nest, Mark, Unmarked, Outermost, Block, Done, Then, Statement, AssignScalar, AssignElement, AssignSection, Transform, If, Do, Where, Forall, Stop, Exit, Cycle, Continue, Redistribute, Arms, NoArm, Arm}
 use Rattle.array_meaning.specs.Terms.{Control}
 use Rattle.array_meaning.specs.declared.sections.Sequence.{Sequence}
 use Rattle.lowering.proofs.Assigns.{assigns, assigns-element, after-bind}
@@ -482,53 +484,57 @@ module _ (table : ArrayTable) (row_count : ℕ) (moves : ℕ → List NewMapping
       v = b + control_slots l.control
 
   mutual
-    pub statement-goes : (st : Statement) (line b pc leave again : ℕ) (slots : List ℤ) (rows : Storage) (s : State) → IsWellFormed n st → HasForms st → StatementFits st → StateFits s
+    pub statement-goes : (st : Statement) (line b pc leave again : ℕ) (slots : List ℤ) (rows : Storage) (s : State) → IsWellFormed n st → HasForms st
+        → KeepsRanks table.shapes st → StatementFits st → StateFits s
         → n + statement_copies n st ≤ row_count → HasAt code pc (statement_code n moves line st b pc leave again) → n ≤ b → b + statement_slots st ≤ many
         → Holds table row_count moves code n many None s slots rows
         → Goes table row_count moves code n many None leave again (trail st line s) (pc + length (statement_code n moves line st b pc leave again)) b slots
         (stands table row_count moves code pc slots rows s.printed) (run st line s)
-    statement-goes (AssignScalar k t) line b pc leave again slots rows s ok forms fit fits room has le few holds =
+    statement-goes (AssignScalar k t) line b pc leave again slots rows s ok forms ranked fit fits room has le few holds =
         assigns table row_count moves code n many None leave again line b pc k t slots rows s ok.0 ok.1 has le few holds
-    statement-goes (AssignElement a ts t) line b pc leave again slots rows s ok forms fit fits room has le few holds =
+    statement-goes (AssignElement a ts t) line b pc leave again slots rows s ok forms ranked fit fits room has le few holds =
         assigns-element table row_count moves code n many None leave again line b pc a ts t slots rows s ok.0 ok.1 ok.2 has le few holds
-    statement-goes (AssignSection a rs t) line b pc leave again slots rows s ok forms fit fits room has le few holds =
+    statement-goes (AssignSection a rs t) line b pc leave again slots rows s ok forms ranked fit fits room has le few holds =
         section-goes table row_count moves code n many None leave again line b pc a rs t slots rows s ok.0 ok.1 ok.2 has le few holds
-    statement-goes (If arms other) line b pc leave again slots rows s ok forms fit fits room has le few holds =
-        arms-go arms (λ pc. block_code n moves other b pc leave again) (run_block other) (block_trail other) b pc leave again slots rows s ok.0 forms.0 fit.0 fits (omega (arith, room)) has le
+    statement-goes (Transform x y how) line b pc leave again slots rows s ok forms ranked fit fits room has le few holds =
+        transform-goes table row_count moves code n many None leave again line x y how ok.0 ok.1 ranked.0 s rows b pc slots ok.2 has le few holds
+    statement-goes (If arms other) line b pc leave again slots rows s ok forms ranked fit fits room has le few holds =
+        arms-go arms (λ pc. block_code n moves other b pc leave again) (run_block other) (block_trail other) b pc leave again slots rows s ok.0 forms.0 ranked.0 fit.0 fits (omega (arith, room)) has le
         (omega (arith, few)) holds
-        (λ pc slots rows has holds. block-goes other b pc leave again slots rows s ok.1 forms.1 fit.1 fits (omega (arith, room)) has le (omega (arith, few)) holds)
-    statement-goes (Do Unmarked loop bl) line b pc leave again slots rows s ok forms fit fits room has le few holds =
+        (λ pc slots rows has holds. block-goes other b pc leave again slots rows s ok.1 forms.1 ranked.1 fit.1 fits (omega (arith, room)) has le (omega (arith, few)) holds)
+    statement-goes (Do Unmarked loop bl) line b pc leave again slots rows s ok forms ranked fit fits room has le few holds =
         loop-goes line b pc leave again Unmarked loop bl (block_code n moves bl (b + control_slots loop.control + 4)) (run_block bl) (block_trail bl) slots rows s tt ok.0 ok.1 fit.1 fits has le
         (omega (arith, few)) holds (block_fits bl fit.2) (λ p. refl)
-        (λ s slots rows pc leave again fits has holds. block-goes bl (b + control_slots loop.control + 4) pc leave again slots rows s ok.2 forms fit.2 fits room has (omega (arith, le))
+        (λ s slots rows pc leave again fits has holds. block-goes bl (b + control_slots loop.control + 4) pc leave again slots rows s ok.2 forms ranked.1 fit.2 fits room has (omega (arith, le))
         (omega (arith, few)) holds)
-    statement-goes (Do (Outermost nest Done) loop bl) line b pc leave again slots rows s ok forms fit fits room has le few holds =
+    statement-goes (Do (Outermost nest Done) loop bl) line b pc leave again slots rows s ok forms ranked fit fits room has le few holds =
         let formed = formed_nest n nest loop bl Done forms ok.2 in
         loop-goes line b pc leave again (Outermost nest Done) loop bl (block_code n moves bl (b + control_slots loop.control + 4)) (run_block bl) (block_trail bl) slots rows s formed ok.0 ok.1
         fit.1 fits has le (omega (arith, few)) holds (block_fits bl fit.2) (λ p. silent nest loop bl Done forms p s ∙ sym (no-part nest s))
-        (λ s slots rows pc leave again fits has holds. block-goes bl (b + control_slots loop.control + 4) pc leave again slots rows s ok.2 formed.forms fit.2 fits room has (omega (arith, le))
+        (λ s slots rows pc leave again fits has holds. block-goes bl (b + control_slots loop.control + 4) pc leave again slots rows s ok.2 formed.forms ranked.1 fit.2 fits room has (omega (arith, le))
         (omega (arith, few)) holds)
-    statement-goes (Do (Outermost nest (Then l st rest)) loop bl) line b pc leave again slots rows s ok forms fit fits room has le few holds =
+    statement-goes (Do (Outermost nest (Then l st rest)) loop bl) line b pc leave again slots rows s ok forms ranked fit fits room has le few holds =
         nest-follows line b pc leave again nest loop bl (Then l st rest) slots rows s forms (λ e. absurd cc) ok.0 ok.1 ok.2 fit.1 fits room has le few holds
-    statement-goes (Where mask bl others) line b pc leave again slots rows s ok forms fit fits room has le few holds =
+    statement-goes (Where mask bl others) line b pc leave again slots rows s ok forms ranked fit fits room has le few holds =
         where-goes table row_count moves code n many leave again lie.sized line b pc mask bl others slots rows s ok.0 ok.1 ok.2 has le few holds
-    statement-goes (Forall cs mask bl) line b pc leave again slots rows s ok forms fit fits room has le few holds =
+    statement-goes (Forall cs mask bl) line b pc leave again slots rows s ok forms ranked fit fits room has le few holds =
         forall-goes table row_count moves code n many leave again lie.sized line b pc cs mask bl slots rows s ok.0 ok.1 ok.2 has le few holds
-    statement-goes (statements.Print items) line b pc leave again slots rows s ok forms fit fits room has le few holds = prints line b pc leave again items slots rows s ok has le few holds
-    statement-goes Stop line b pc leave again slots rows s ok forms fit fits room has le few holds =
+    statement-goes (statements.Print items) line b pc leave again slots rows s ok forms ranked fit fits room has le few holds = prints line b pc leave again items slots rows s ok has le few holds
+    statement-goes Stop line b pc leave again slots rows s ok forms ranked fit fits room has le few holds =
         λ i. (_, (1, one table row_count moves code pc slots rows s.printed Halt has.0 i, still table row_count moves code pc slots rows s.printed Halt has.0 refl i), refl, refl, holds, refl)
-    statement-goes Exit line b pc leave again slots rows s ok forms fit fits room has le few holds =
+    statement-goes Exit line b pc leave again slots rows s ok forms ranked fit fits room has le few holds =
         (slots, rows, jump-reaches table row_count moves code n many None pc leave slots rows s.printed has.0, kept-refl table row_count moves code n many None b slots, holds)
-    statement-goes Cycle line b pc leave again slots rows s ok forms fit fits room has le few holds =
+    statement-goes Cycle line b pc leave again slots rows s ok forms ranked fit fits room has le few holds =
         (slots, rows, jump-reaches table row_count moves code n many None pc again slots rows s.printed has.0, kept-refl table row_count moves code n many None b slots, holds)
-    statement-goes Continue line b pc leave again slots rows s ok forms fit fits room has le few holds = stays b pc leave again slots rows s holds
-    statement-goes Redistribute line b pc leave again slots rows s ok forms fit fits room has le few holds = (
+    statement-goes Continue line b pc leave again slots rows s ok forms ranked fit fits room has le few holds = stays b pc leave again slots rows s holds
+    statement-goes Redistribute line b pc leave again slots rows s ok forms ranked fit fits room has le few holds = (
       slots,
       rows,
       (λ i. (
         1,
         record {
           layouts = remapped (remappings table.maps (moves line)) i.layouts;
+          parts = i.parts;
           joined = i.joined;
           laid = length-remapped (remappings table.maps (moves line)) i.layouts ∙ i.laid;
         },
@@ -540,24 +546,26 @@ module _ (table : ArrayTable) (row_count : ℕ) (moves : ℕ → List NewMapping
     )
 
     pub arms-go : (arms : Arms) (rest : ℕ → List Instruction) (others : State → Run) (otrail : State → Trail) (b pc leave again : ℕ) (slots : List ℤ) (rows : Storage) (s : State)
-        → AreWellFormedArms n arms → ArmsHaveForms arms → ArmsFit arms → StateFits s → n + arms_copies n arms ≤ row_count → HasAt code pc (arms_code n moves arms rest b pc leave again) → n ≤ b
+        → AreWellFormedArms n arms → ArmsHaveForms arms → ArmsKeepRanks table.shapes arms → ArmsFit arms → StateFits s
+        → n + arms_copies n arms ≤ row_count → HasAt code pc (arms_code n moves arms rest b pc leave again) → n ≤ b
         → b + arms_slots arms ≤ many → Holds table row_count moves code n many None s slots rows → ((pc : ℕ) → Makes table row_count moves code n many None leave again rest b pc others otrail s)
         → Goes table row_count moves code n many None leave again (arms_trail arms otrail s) (pc + length (arms_code n moves arms rest b pc leave again)) b slots
         (stands table row_count moves code pc slots rows s.printed) (run_arms arms others s)
-    arms-go NoArm rest others otrail b pc leave again slots rows s ok forms fit fits room has le few holds makes = makes pc slots rows has holds
-    arms-go (Arm line cond bl arms) rest others otrail b pc leave again slots rows s ok forms fit fits room has le few holds makes =
+    arms-go NoArm rest others otrail b pc leave again slots rows s ok forms ranked fit fits room has le few holds makes = makes pc slots rows has holds
+    arms-go (Arm line cond bl arms) rest others otrail b pc leave again slots rows s ok forms ranked fit fits room has le few holds makes =
         arm-goes table row_count moves code n many None leave again line b pc cond (λ pc. block_code n moves bl b pc leave again) (λ pc. arms_code n moves arms rest b pc leave again) (run_block bl)
         (run_arms arms others) (block_trail bl) (arms_trail arms otrail) slots rows s ok.0 has le (omega (arith, few)) holds
-        (λ pc slots rows has holds. block-goes bl b pc leave again slots rows s ok.1 forms.0 fit.1 fits (omega (arith, room)) has le (omega (arith, few)) holds)
-        (λ pc slots rows has holds. arms-go arms rest others otrail b pc leave again slots rows s ok.2 forms.1 fit.2 fits (omega (arith, room)) has le (omega (arith, few)) holds makes)
+        (λ pc slots rows has holds. block-goes bl b pc leave again slots rows s ok.1 forms.0 ranked.1 fit.1 fits (omega (arith, room)) has le (omega (arith, few)) holds)
+        (λ pc slots rows has holds. arms-go arms rest others otrail b pc leave again slots rows s ok.2 forms.1 ranked.2 fit.2 fits (omega (arith, room)) has le (omega (arith, few)) holds makes)
 
-    pub block-goes : (bl : Block) (b pc leave again : ℕ) (slots : List ℤ) (rows : Storage) (s : State) → IsWellFormedBlock n bl → BlockHasForms bl → BlockFits bl → StateFits s
+    pub block-goes : (bl : Block) (b pc leave again : ℕ) (slots : List ℤ) (rows : Storage) (s : State) → IsWellFormedBlock n bl → BlockHasForms bl
+        → BlockKeepsRanks table.shapes bl → BlockFits bl → StateFits s
         → n + block_copies n bl ≤ row_count → HasAt code pc (block_code n moves bl b pc leave again) → n ≤ b → b + block_slots bl ≤ many
         → Holds table row_count moves code n many None s slots rows
         → Goes table row_count moves code n many None leave again (block_trail bl s) (pc + length (block_code n moves bl b pc leave again)) b slots
         (stands table row_count moves code pc slots rows s.printed) (run_block bl s)
-    block-goes Done b pc leave again slots rows s ok forms fit fits room has le few holds = stays b pc leave again slots rows s holds
-    block-goes (Then line st rest) b pc leave again slots rows s ok forms fit fits room has le few holds =
+    block-goes Done b pc leave again slots rows s ok forms ranked fit fits room has le few holds = stays b pc leave again slots rows s holds
+    block-goes (Then line st rest) b pc leave again slots rows s ok forms ranked fit fits room has le few holds =
         let c = statement_code n moves line st b pc leave again in
         let pc1 : ℕ = pc + length c in
         let cs = block_code n moves rest b pc1 leave again in
@@ -566,6 +574,6 @@ module _ (table : ArrayTable) (row_count : ℕ) (moves : ℕ → List NewMapping
         (stands table row_count moves code pc slots rows s.printed) (run_block (Then line st rest) s) long
         (goes-next table row_count moves code n many None leave again (trail st line s) (block_trail rest) pc1 (pc1 + length cs) b slots (stands table row_count moves code pc slots rows s.printed)
         (run st line s) (run_block rest)
-        (statement-goes st line b pc leave again slots rows s ok.0 forms.0 fit.0 fits (omega (arith, room)) (has-front code pc c cs has) le (omega (arith, few)) holds)
-        (λ slots1 rows1 kept holds1. block-goes rest b pc1 leave again slots1 rows1 (run st line s).state ok.1 forms.1 fit.1 (run_fits st line fit.0 s fits) (omega (arith, room))
+        (statement-goes st line b pc leave again slots rows s ok.0 forms.0 ranked.0 fit.0 fits (omega (arith, room)) (has-front code pc c cs has) le (omega (arith, few)) holds)
+        (λ slots1 rows1 kept holds1. block-goes rest b pc1 leave again slots1 rows1 (run st line s).state ok.1 forms.1 ranked.1 fit.1 (run_fits st line fit.0 s fits) (omega (arith, room))
         (has-back code pc c cs has) le (omega (arith, few)) holds1))

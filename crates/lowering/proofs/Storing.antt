@@ -30,7 +30,7 @@ use Rattle.lowered_expressions.proofs.Scatter.{Does, Scattered, scattered, value
 use Rattle.lowering.proofs.Pars.{par-reaches, par-stops}
 
 -- stores print nothing
-stores-print : (s : State) (a : ℕ) (stores : List (Option Store)) → (store_all s a stores).printed ≡ s.printed
+pub stores-print : (s : State) (a : ℕ) (stores : List (Option Store)) → (store_all s a stores).printed ≡ s.printed
 stores-print s a [] = refl
 stores-print s a (None ∷ stores) = stores-print s a stores
 stores-print s a (Some st ∷ stores) = stores-print (stored a s (Some st)) a stores

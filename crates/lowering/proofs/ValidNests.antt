@@ -7,7 +7,7 @@ use Rattle.hpf_base.specs.declared.limits.TheConstants.{MAX_RANK}
 use Rattle.name_table.specs.declared.limits.TheConstants.{MAX_INDICES}
 use Rattle.op_tables.specs.declared.join.Join.{Join}
 use Rattle.array_meaning.specs.Terms.{Term, Number, Scalar, Index, Element, Section, Apply, Reduce, Terms, NoTerm, More, list_of}
-use Rattle.array_meaning.specs.Statements.{Loop, Nest, Block, Done, Then, Statement, AssignScalar, AssignElement, AssignSection, If, Do, Where, Forall, Print, Stop, Exit, Cycle, Continue, Redistribute, Arms, NoArm, Arm}
+use Rattle.array_meaning.specs.Statements.{Loop, Nest, Block, Done, Then, Statement, AssignScalar, AssignElement, AssignSection, Transform, If, Do, Where, Forall, Print, Stop, Exit, Cycle, Continue, Redistribute, Arms, NoArm, Arm}
 use Rattle.array_meaning.specs.Iterations.{is_in, nest_indices}
 use Rattle.array_meaning.specs.Touches.{assigned_in}
 use Rattle.node_code.specs.Forms.{Sub, SubAlong}
@@ -329,6 +329,7 @@ module _ (table : CodeTable) (n : ℕ) (declared : length table.shapes ≡ n) (f
         )
         statement-good free l Continue rest keeps text ok ranked h = h
         statement-good free l (AssignSection a subs t) rest keeps text ok ranked h = absurd keeps
+        statement-good free l (Transform x y how) rest keeps text ok ranked h = absurd keeps
         statement-good free l (Where mask b others) rest keeps text ok ranked h = absurd keeps
         statement-good free l (Forall controls mask b) rest keeps text ok ranked h = absurd keeps
         statement-good free l (Print items) rest keeps text ok ranked h = absurd keeps

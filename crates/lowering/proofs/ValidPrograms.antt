@@ -4,17 +4,22 @@ use Rattle.std.specs.Bool.{⊤}
 use Rattle.std.specs.Prelude.{option_map, pos, slice_get}
 use Rattle.std.specs.List.{AllByRecursion}
 use Rattle.std.specs.Option.{option_or}
-use Rattle.std.proofs.lemmas.List.{length-map}
+use Rattle.std.proofs.lemmas.List.{length-map, length-reverse}
 use Rattle.hpf_base.specs.declared.limits.TheConstants.{MAX_RANK}
 use Rattle.name_table.specs.declared.limits.TheConstants.{MAX_INDICES}
+use Rattle.expression_rules.specs.declared.dims.Dim.{Dim}
+use Rattle.expression_rules.specs.Dims.{extent}
 use Rattle.op_tables.specs.declared.op.Op.{Op}
 use Rattle.op_tables.specs.declared.op.Op.TheVariants as op
 use Rattle.op_tables.specs.Operators.{can_divide}
 use Rattle.array_meaning.specs.Terms.{Term, Number, Scalar, Index, Element, Section, Apply, Reduce, Terms, NoTerm, More, list_of, SectionSubscripts, NoSubscript, Subscript, Triplet, Control}
 use Rattle.array_meaning.specs.Statements as statements
-use Rattle.array_meaning.specs.Statements.{Loop, Mark, Unmarked, Outermost, Item, Text, Value, Elements, SectionAssignment, ElementAssignment, Block, Done, Then, Statement, AssignScalar, AssignElement, AssignSection, If, Do, Where, Forall, Stop, Exit, Cycle, Continue, Redistribute, Arms, NoArm, Arm}
+use Rattle.array_meaning.specs.Statements.{Loop, Mark, Unmarked, Outermost, Item, Text, Value, Elements, SectionAssignment, ElementAssignment, WholeArray, Transformation, CircularShift, Transposition, Block, Done, Then, Statement, AssignScalar, AssignElement, AssignSection, Transform, If, Do, Where, Forall, Stop, Exit, Cycle, Continue, Redistribute, Arms, NoArm, Arm}
 use Rattle.statement_trail.specs.Anchors.{AtTerm, are_all_foreknown, section_terms, where_anchor}
 use Rattle.array_meaning.specs.Forall.{subscripts_in, subscripts_in_all, mask_subscripts, body_subscripts}
+use Rattle.array_meaning.specs.Resolution.{whole}
+use Rattle.array_meaning.specs.Transformations.{has_shape}
+use Rattle.statement_trail.specs.TransformedElements.{above_lower, applied, from_lower, indices_from, same_places, shifted_subscripts, source_subscripts, transposed_subscripts, turned}
 use Rattle.node_code.specs.Flat.{Flat, Int, Slot, Axis, Read, Operated, Flats, NoFlat, AndFlat}
 use Rattle.node_code.specs.Anchors.{FlatAnchor}
 use Rattle.node_code.specs.Forms.{Sub, ArrayForm, FlatForm, SectionForm, OperationForm, Forms, NoForm, AndForm}
@@ -23,8 +28,8 @@ use Rattle.code_meaning.specs.Parallel.{shape_of}
 use Rattle.node_code.specs.Instructions.{NewMapping, Instruction, Jump, JumpIfZero, Halt, MakeCopy, Remap, Set, Trips}
 use Rattle.code_meaning.specs.ValidCode.{CodeTable, flat_count, IsCopy, IsFlat, AreFlats, IsValue, IsReference, IsElement, IsSub, IsSection, IsSpace, IsForm, AreForms, IsMask, IsAnchorSub, IsAnchor, IsAssignment, IsEvaluation, IsItem, IsValid, IsValidNodeCode, is_closed}
 use Rattle.program_code.specs.ExpressionCode.{one_if, slots_of, all_slots_of, parts_slots, all_parts_slots, subscripts_slots, control_slots, operated_flat, flat_of, flats_of, subs_of, form_of, forms_of, set_if, three_code, first_subs, first_subs_of, or_no_sub, copied_evaluation, own_evaluation, reduce_code, code_of, codes_of, subscripts_code, parts_code, all_parts_code, control_code, index_flat, index_flats, index_subs, index_form, index_forms, anchor_sub_code, anchor_code}
-use Rattle.program_code.specs.StatementCode.{Masking, entry_code, item_slots, items_slots, item_code, items_code, print_item, print_items, loop_code, arm_code, assignment, assignment_code, masked_slots, masked_code, where_true, where_beside, where_code, triplets, one_to_one_code, forall_beside, forall_mask_code, forall_assignments_code, forall_code, statement_slots, arms_slots, block_slots, block_copies, statement_code, arms_code, block_code, program_code, statement_copies, arms_copies}
-use Rattle.lowered_expressions.specs.WellFormed.{IsScalar, AreScalar, AreScalarSubscripts, IsArray, AreArrays, IsControl, AreControls, AreMasked, IsSubscript, AreSubscripts, IsIndexed, AreIndexed, IsIndexedMask, AreIndexedAssignments, AreItems, IsWellFormed, AreWellFormedArms, IsWellFormedBlock}
+use Rattle.program_code.specs.StatementCode.{Masking, entry_code, item_slots, items_slots, item_code, items_code, print_item, print_items, loop_code, arm_code, assignment, assignment_code, masked_slots, masked_code, where_true, where_beside, where_code, triplets, one_to_one_code, forall_beside, forall_mask_code, forall_assignments_code, forall_code, turn_operands, turn_slots, turn_code, turn_in_slot, transform_assignment, in_order, misfit, fitted_code, transform_code, statement_slots, arms_slots, block_slots, block_copies, statement_code, arms_code, block_code, program_code, statement_copies, arms_copies}
+use Rattle.lowered_expressions.specs.WellFormed.{IsScalar, AreScalar, AreScalarSubscripts, IsArray, AreArrays, IsControl, AreControls, AreMasked, IsSubscript, AreSubscripts, IsIndexed, AreIndexed, IsIndexedMask, AreIndexedAssignments, AreItems, IsTransformation, IsWellFormed, AreWellFormedArms, IsWellFormedBlock}
 use Rattle.lowered_expressions.specs.Anchors.{IsAnchorTerm, IsAnchorText}
 use Rattle.lowered_expressions.proofs.Anchors.{where-anchored, masked-append}
 use Rattle.program_code.specs.NestCode.{nest_slots, nest_code}
@@ -33,7 +38,9 @@ use Rattle.lowering.proofs.NestNames.{formed_nest}
 use Rattle.lowering.proofs.NestValidity.{both}
 use Rattle.lowering.proofs.ValidNests.{nest-names}
 use Rattle.lowering.proofs.Rooms.{some_copy}
-use Rattle.lowering.specs.Ranks.{subscript_count, AreFewDims, IsRanked, AreRanked, AreRankedSubscripts, IsRankedControl, IsRankedMasked, IsRankedIndexed, IsRankedMask, IsRankedItem, KeepsRanks, ArmsKeepRanks, BlockKeepsRanks}
+use Rattle.lowering.proofs.NestChecks.{all_reversed}
+use Rattle.lowering.proofs.Wholes.{whole-counted, whole-ranked, whole-scalar}
+use Rattle.lowering.specs.Ranks.{subscript_count, AreFewDims, IsRanked, AreRanked, AreRankedSubscripts, IsRankedControl, IsRankedMasked, IsRankedIndexed, IsRankedMask, IsRankedItem, IsDeclared, IsRankOf, AreTransformed, IsRankedTransformation, KeepsRanks, ArmsKeepRanks, BlockKeepsRanks}
 
 -- ---- lists, and how many there are
 
@@ -63,6 +70,37 @@ terms_counted : (subs : SectionSubscripts) → length (section_terms subs) ≡ s
 terms_counted NoSubscript = refl
 terms_counted (Subscript t subs) = let more = terms_counted subs in omega (arith, more)
 terms_counted (Triplet first last step subs) = let more = terms_counted subs in omega (arith, more)
+
+indices_counted : (k : ℕ) (ds : List Dim) → length (index_subs (indices_from k ds)) ≡ length ds
+indices_counted k [] = refl
+indices_counted k (d ∷ ds) = ap suc (indices_counted (suc k) ds)
+
+places_counted : (k : ℕ) (ds es : List Dim) → length es ≡ length ds → length (index_subs (same_places k ds es)) ≡ length es
+places_counted k [] [] same = refl
+places_counted k [] (e ∷ es) same = absurd (omega (arith, same))
+places_counted k (d ∷ ds) [] same = refl
+places_counted k (d ∷ ds) (e ∷ es) same = ap suc (places_counted (suc k) ds es (omega (arith, same)))
+
+-- of the element that goes to a place of a target
+shifted_counted : (turn : Term) (ds es : List Dim) → length es ≡ length ds → length (index_subs (shifted_subscripts turn ds es)) ≡ length es
+shifted_counted turn [] [] same = refl
+shifted_counted turn [] (e ∷ es) same = absurd (omega (arith, same))
+shifted_counted turn (d ∷ ds) [] same = refl
+shifted_counted turn (d ∷ ds) (e ∷ es) same = ap suc (places_counted 1 ds es (omega (arith, same)))
+
+transposed_counted : (ds es : List Dim) → length ds ≡ 2 → length es ≡ 2 → length (index_subs (transposed_subscripts ds es)) ≡ length es
+transposed_counted (d ∷ d' ∷ []) (e ∷ e' ∷ []) h g = refl
+transposed_counted (d ∷ d' ∷ []) [] h g = absurd (omega (arith, g))
+transposed_counted (d ∷ d' ∷ []) (e ∷ []) h g = absurd (omega (arith, g))
+transposed_counted (d ∷ d' ∷ []) (e ∷ e' ∷ c ∷ es) h g = absurd (omega (arith, g))
+transposed_counted [] es h g = absurd (omega (arith, h))
+transposed_counted (d ∷ []) es h g = absurd (omega (arith, h))
+transposed_counted (d ∷ d' ∷ c ∷ ds) es h g = absurd (omega (arith, h))
+
+source_counted : (how : Transformation) (turn : Term) (ds es : List Dim) → length es ≡ length ds → IsRankOf how (length ds) →
+    length (index_subs (source_subscripts how turn ds es)) ≡ length es
+source_counted (CircularShift by) turn ds es same rank = shifted_counted turn ds es same
+source_counted Transposition turn ds es same rank = transposed_counted ds es rank (same ∙ rank)
 
 -- `n` names are declared, and no array has more than 7 dimensions
 module _ (table : CodeTable) (n : ℕ) (declared : length table.shapes ≡ n) (few : AreFewDims table.shapes) (roomy : n ≤ table.slots) where
@@ -559,6 +597,106 @@ module _ (table : CodeTable) (n : ℕ) (declared : length table.shapes ≡ n) (f
             (forall-assignments-good over (option_map (λ t. where_true copy true) mask) (forall_beside body) body space (masked-by copy mask is-copy) anchored ok.2 all)),
       )
 
+  -- ---- transformations of whole arrays
+
+  module _ (axes : ℕ) where
+    above-good : (k : ℕ) (d : Dim) → k < axes → IsFlat table axes (index_flat (above_lower k d))
+    above-good k d lt = (refl, (lt, (tt, tt)))
+
+    from-good : (e : Dim) (t : Term) → IsFlat table axes (index_flat t) → IsFlat table axes (index_flat (from_lower e t))
+    from-good e t ok = (refl, (ok, (tt, tt)))
+
+    turned-good : (m : ℕ) (t : Term) → IsFlat table axes (index_flat t) → IsFlat table axes (index_flat (turned m t))
+    turned-good m t ok = (refl, (ok, ((refl, (tt, ((refl, (ok, (tt, tt))), tt))), tt)))
+
+    indices-good : (k : ℕ) (ds : List Dim) → k + length ds ≤ axes → AllByRecursion (IsSub table axes) (index_subs (indices_from k ds))
+    indices-good k [] le = tt
+    indices-good k (d ∷ ds) le = (omega (arith, le), indices-good (suc k) ds (omega (arith, le)))
+
+    places-good : (k : ℕ) (ds es : List Dim) → k + length ds ≤ axes → AllByRecursion (IsSub table axes) (index_subs (same_places k ds es))
+    places-good k [] es le = tt
+    places-good k (d ∷ ds) [] le = tt
+    places-good k (d ∷ ds) (e ∷ es) le = (from-good e (above_lower k d) (above-good k d (omega (arith, le))), places-good (suc k) ds es (omega (arith, le)))
+
+    source-good : (how : Transformation) (turn : Term) (ds es : List Dim) → IsFlat table axes (index_flat turn) → length ds ≤ axes →
+        AllByRecursion (IsSub table axes) (index_subs (source_subscripts how turn ds es))
+    source-good (CircularShift by) turn (d ∷ ds) (e ∷ es) ok le =
+        let start = above-good 0 d (omega (arith, le)) in
+        let on : Term = applied op.Add (above_lower 0 d) turn in
+        let moved : IsFlat table axes (index_flat on) = (refl, (start, (ok, tt))) in
+        (from-good e (turned (extent d) on) (turned-good (extent d) on moved), places-good 1 ds es (omega (arith, le)))
+    source-good (CircularShift by) turn [] es ok le = tt
+    source-good (CircularShift by) turn (d ∷ ds) [] ok le = tt
+    source-good Transposition turn (d ∷ d' ∷ []) (e ∷ e' ∷ []) ok le =
+        (from-good e (above_lower 1 d') (above-good 1 d' (omega (arith, le))), (from-good e' (above_lower 0 d) (above-good 0 d (omega (arith, le))), tt))
+    source-good Transposition turn ds es ok le = tt
+
+  -- over the subscripts of a whole array
+  whole-space : (b : ℕ) (x : WholeArray) → IsDeclared table.shapes x → b + subscripts_slots (whole x.dims) ≤ table.slots → IsSpace table (subs_of b (whole x.dims))
+  whole-space b x known le =
+      let count : length (subs_of b (whole x.dims)) ≡ Rank x.array = subs_counted b (whole x.dims) ∙ whole-counted x.dims ∙ ap length known.0 in
+      let most : Rank x.array ≤ MAX_RANK = few x.array in
+      (omega (arith, count, most), subs-good 0 b (whole x.dims) (whole-scalar n x.dims) le)
+
+  whole-good : (line b : ℕ) (x : WholeArray) → b + subscripts_slots (whole x.dims) ≤ table.slots → AllValid (subscripts_code line b (whole x.dims))
+  whole-good line b x le = subscripts-good line b (whole x.dims) (whole-scalar n x.dims) (whole-ranked table.shapes 0 x.dims) le
+
+  turn-good : (line b : ℕ) (x : WholeArray) (how : Transformation) → IsTransformation n how → IsRankedTransformation table.shapes how → b + turn_slots x how ≤ table.slots →
+      AllValid (turn_code line b x how)
+  turn-good line b x (CircularShift by) ok ranked le = term-good line b (Apply op.Modulo (turn_operands x by)) (ok, (tt, tt)) (ranked, (tt, tt)) le
+  turn-good line b x Transposition ok ranked le = tt
+
+  turn-flat : (axes b : ℕ) (x : WholeArray) (how : Transformation) → b + turn_slots x how ≤ table.slots → IsFlat table axes (index_flat (turn_in_slot b x how))
+  turn-flat axes b x (CircularShift by) le = let more : b + (all_slots_of (turn_operands x by) + 1) ≤ table.slots = le in omega (arith, more)
+  turn-flat axes b x Transposition le = tt
+
+  ordered-space : (how : Transformation) (over : List Sub) → IsSpace table over → IsSpace table (in_order how over)
+  ordered-space (CircularShift by) over space = space
+  ordered-space Transposition over space = (omega (arith, space.0, length-reverse over), all_reversed (IsSub table 0) over space.1)
+
+  module _ (line b b1 b2 : ℕ) (x y : WholeArray) (how : Transformation) (xs : x.array < n) (ys : y.array < n) (ranks : AreTransformed table.shapes x y how)
+      (turns : b + turn_slots x how ≤ table.slots) (target : b1 + subscripts_slots (whole x.dims) ≤ table.slots)
+      (source : b2 + subscripts_slots (whole y.dims) ≤ table.slots) where
+    assigned-good : IsAssignment table (length (subs_of b1 (whole x.dims))) (transform_assignment line b b1 x y how)
+    assigned-good =
+        let over : List Sub = subs_of b1 (whole x.dims) in
+        let turn : Term = turn_in_slot b x how in
+        let axes : length over ≡ length x.dims = subs_counted b1 (whole x.dims) ∙ whole-counted x.dims in (
+          (
+            reference x.array (length (index_subs (indices_from 0 x.dims))) xs (indices_counted 0 x.dims ∙ ap length ranks.0.0),
+            indices-good (length over) 0 x.dims (omega (arith, axes)),
+          ),
+          (
+            reference y.array (length (index_subs (source_subscripts how turn x.dims y.dims))) ys (source_counted how turn x.dims y.dims ranks.2 ranks.3 ∙ ap length ranks.1.0),
+            source-good (length over) how turn x.dims y.dims (turn-flat (length over) b x how turns) (omega (arith, axes)),
+          ),
+          whole-space b1 x ranks.0 target,
+          tt,
+          tt,
+        )
+
+    misfit-good : IsAssignment table 0 (misfit line b1 b2 x y how)
+    misfit-good = (
+      section-good 0 b2 y.array (whole y.dims) ys (whole-scalar n y.dims) (whole-counted y.dims ∙ ap length ranks.1.0) source,
+      tt,
+      ordered-space how (subs_of b1 (whole x.dims)) (whole-space b1 x ranks.0 target),
+      tt,
+      tt,
+    )
+
+    fitted-good : (fits : Bool) → AllValid (fitted_code fits line b b1 b2 x y how)
+    fitted-good true = (assigned-good, tt)
+    fitted-good false = join (subscripts_code line b2 (whole y.dims)) _ (whole-good line b2 y source) (misfit-good, tt)
+
+  transform-good : (line b : ℕ) (x y : WholeArray) (how : Transformation) → IsWellFormed n (Transform x y how) → KeepsRanks table.shapes (Transform x y how) →
+      b + (turn_slots x how + (subscripts_slots (whole x.dims) + subscripts_slots (whole y.dims))) ≤ table.slots → AllValid (transform_code line b x y how)
+  transform-good line b x y how ok ranked le =
+      let b1 : ℕ = b + turn_slots x how in
+      let b2 : ℕ = b1 + subscripts_slots (whole x.dims) in
+      join (turn_code line b x how) _ (turn-good line b x how ok.2 ranked.1 (omega (arith, le)))
+      (join (subscripts_code line b1 (whole x.dims)) _ (whole-good line b1 x (omega (arith, le)))
+      (fitted-good line b b1 b2 x y how ok.0 ok.1 ranked.0 (omega (arith, le)) (omega (arith, le)) (omega (arith, le)) (has_shape x y how)))
+
   module _ (copied : 1 ≤ table.copies) (moves : ℕ → List NewMapping) (moving : (line : ℕ) → IsValid table (Remap line (moves line))) where
     is-copy : IsCopy table n
     is-copy = (omega (arith, declared), omega (arith, declared, copied))
@@ -596,6 +734,7 @@ module _ (table : CodeTable) (n : ℕ) (declared : length table.shapes ≡ n) (f
           )
       statement-good (AssignSection a subs t) line b pc leave again ok forms ranked room le within away round =
           assignment-good line b a subs t None tt ok.0 ok.1 ok.2 ranked.0 ranked.1 le
+      statement-good (Transform x y how) line b pc leave again ok forms ranked room le within away round = transform-good line b x y how ok ranked le
       statement-good (If arms other) line b pc leave again ok forms ranked room le within away round =
           let more : b + max (arms_slots arms) (block_slots other) ≤ table.slots = le in
           arms-good arms (λ pc. block_code n moves other b pc leave again) b pc leave again ok.0 forms.0 ranked.0 (omega (arith, room)) (omega (arith, more)) within away round

@@ -3,11 +3,14 @@ use Rattle.std.proofs.Common.{◌≡◌, ℕ, zero, suc, ◌+◌, ◌≤◌, Lis
 use Rattle.std.specs.Bool.{⊤}
 use Rattle.std.specs.List.{AllByRecursion}
 use Rattle.hpf_base.specs.declared.index.Shape.{Shape}
+use Rattle.op_tables.specs.declared.op.Op.TheVariants as op
 use Rattle.op_tables.specs.Operators.{can_divide}
 use Rattle.op_tables.specs.Reductions.{reduction_of}
 use Rattle.array_meaning.specs.Terms.{Term, Number, Scalar, Index, Element, Section, Apply, Reduce, Terms, NoTerm, More, SectionSubscripts, NoSubscript, Subscript, Triplet, Control}
 use Rattle.array_meaning.specs.Statements as statements
-use Rattle.array_meaning.specs.Statements.{Mark, Unmarked, Outermost, Item, Text, Value, Elements, SectionAssignment, ElementAssignment, Block, Done, Then, Statement, AssignScalar, AssignElement, AssignSection, If, Do, Where, Forall, Stop, Exit, Cycle, Continue, Redistribute, Arms, NoArm, Arm}
+use Rattle.array_meaning.specs.Statements.{Mark, Unmarked, Outermost, Item, Text, Value, Elements, SectionAssignment, ElementAssignment, WholeArray, Transformation, CircularShift, Transposition, Block, Done, Then, Statement, AssignScalar, AssignElement, AssignSection, Transform, If, Do, Where, Forall, Stop, Exit, Cycle, Continue, Redistribute, Arms, NoArm, Arm}
+use Rattle.array_meaning.specs.Resolution.{whole}
+use Rattle.array_meaning.specs.Transformations.{has_shape}
 use Rattle.node_code.specs.Instructions.{NewMapping, Instruction, Remap}
 use Rattle.code_meaning.specs.Beside.{Anchor}
 use Rattle.code_meaning.specs.Instructions.{ArrayTable, meaning_of}
@@ -20,12 +23,13 @@ use Rattle.node_code.specs.Anchors.{FlatAnchor}
 use Rattle.node_code.specs.Forms.{Sub}
 use Rattle.node_code.specs.Parallel.{When}
 use Rattle.program_code.specs.ExpressionCode.{slots_of, parts_slots, subscripts_slots, control_slots, set_if, three_code, code_of, codes_of, subscripts_code, parts_code, all_parts_code, control_code}
-use Rattle.program_code.specs.StatementCode.{Masking, marked_code, entry_code, loop_code, item_slots, item_code, items_code, assignment_code, masked_code, triplets, one_to_one_code, forall_mask_code, forall_assignments_code, statement_code, arms_code, block_code, program_code}
-use Rattle.lowered_expressions.specs.WellFormed.{IsScalar, AreScalar, AreScalarSubscripts, IsArray, AreArrays, IsControl, AreControls, AreMasked, AreItems, IsWellFormed, AreWellFormedArms, IsWellFormedBlock}
+use Rattle.program_code.specs.StatementCode.{Masking, marked_code, entry_code, loop_code, item_slots, item_code, items_code, assignment_code, masked_code, triplets, one_to_one_code, forall_mask_code, forall_assignments_code, turn_operands, turn_slots, turn_code, fitted_code, transform_code, statement_code, arms_code, block_code, program_code}
+use Rattle.lowered_expressions.specs.WellFormed.{IsScalar, AreScalar, AreScalarSubscripts, IsArray, AreArrays, IsControl, AreControls, AreMasked, AreItems, IsTransformation, IsWellFormed, AreWellFormedArms, IsWellFormedBlock}
 use Rattle.program_code.specs.NestCode.{nest_code}
 use Rattle.lowering.proofs.NestValidity.{IsOfNests}
 use Rattle.lowering.proofs.ValidNests.{each-of-nest}
 use Rattle.lowering.proofs.Folding.{fold-is}
+use Rattle.lowering.proofs.Wholes.{whole-scalar}
 
 module _ (count n : ℕ) (shapes : List Shape) (table : ArrayTable) (moves : ℕ → List NewMapping) (few : length shapes ≤ n)
     (dealt : (layouts : List Layout) → AreOwned count layouts → (anchor : Option Anchor) (ns : List ℕ) → IsDealt count (table.copies layouts anchor ns))
@@ -123,6 +127,22 @@ module _ (count n : ℕ) (shapes : List Shape) (table : ArrayTable) (moves : ℕ
   forall-assignments-valid over mask beside [] = tt
   forall-assignments-valid over mask beside (x ∷ xs) = (tt, (tt, forall-assignments-valid over mask beside xs))
 
+  turn-valid : (line b : ℕ) (x : WholeArray) (how : Transformation) → IsTransformation n how → AllValid (turn_code line b x how)
+  turn-valid line b x (CircularShift by) ok = term-valid line b (Apply op.Modulo (turn_operands x by)) (ok, (tt, tt))
+  turn-valid line b x Transposition ok = tt
+
+  fitted-valid : (fits : Bool) (line b b1 b2 : ℕ) (x y : WholeArray) (how : Transformation) → AllValid (fitted_code fits line b b1 b2 x y how)
+  fitted-valid true line b b1 b2 x y how = (tt, tt)
+  fitted-valid false line b b1 b2 x y how =
+      both (subscripts_code line b2 (whole y.dims)) _ (subscripts-valid line b2 (whole y.dims) (whole-scalar n y.dims)) (tt, tt)
+
+  transform-valid : (line b : ℕ) (x y : WholeArray) (how : Transformation) → IsTransformation n how → AllValid (transform_code line b x y how)
+  transform-valid line b x y how ok =
+      let b1 : ℕ = b + turn_slots x how in
+      both (turn_code line b x how) _ (turn-valid line b x how ok)
+      (both (subscripts_code line b1 (whole x.dims)) _ (subscripts-valid line b1 (whole x.dims) (whole-scalar n x.dims))
+      (fitted-valid (has_shape x y how) line b b1 (b1 + subscripts_slots (whole x.dims)) x y how))
+
   entry-valid : (line : ℕ) (mark : Mark) (v : ℕ) → AllValid (entry_code line mark v)
   entry-valid line Unmarked v = tt
   entry-valid line (Outermost nest body) v = (tt, (tt, tt))
@@ -157,6 +177,7 @@ module _ (count n : ℕ) (shapes : List Shape) (table : ArrayTable) (moves : ℕ
     statement-valid (AssignElement a ts t) line b pc leave again ok = both (codes_of line b ts) _ (terms-valid line b ts ok.1)
         (tt, both (code_of line _ t) _ (term-valid line _ t ok.2) (tt, tt))
     statement-valid (AssignSection a subs t) line b pc leave again ok = assignment-valid line b a subs t None ok.1 ok.2
+    statement-valid (Transform x y how) line b pc leave again ok = transform-valid line b x y how ok.2
     statement-valid (If arms other) line b pc leave again ok = arms-valid arms _ b pc leave again ok.0 (λ pc. block-valid other b pc leave again ok.1)
     statement-valid (Do mark loop body) line b pc leave again ok =
         let v : ℕ = b + control_slots loop.control in

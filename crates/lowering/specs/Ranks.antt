@@ -1,13 +1,14 @@
 -- Of a promise.
--- Programs that keep the ranks of their arrays: each reference has a subscript for each dimension, and each index of a FORALL is one of
--- its header, which has 7 at most. So it is in every program that breaks no rule.
+-- Programs that keep the ranks of their arrays: each reference has a subscript for each dimension, each whole array that is transformed has the dimensions
+-- that are declared, and each index of a FORALL is one of its header, which has 7 at most. So it is in every program that breaks no rule.
 use Rattle.std.specs.Prelude.{◌≡◌, ℕ, ◌+◌, ◌<◌, ◌≤◌, List, length, map, Option, Some, None, ⊤}
 use Rattle.std.specs.List.{AllByRecursion}
 use Rattle.hpf_base.specs.declared.limits.TheConstants.{MAX_RANK}
 use Rattle.name_table.specs.declared.limits.TheConstants.{MAX_INDICES}
 use Rattle.expression_rules.specs.declared.dims.Dim.{Dim}
+use Rattle.expression_rules.specs.Dims.{AreDims}
 use Rattle.array_meaning.specs.Terms.{Term, Number, Scalar, Index, Element, Section, Apply, Reduce, Terms, NoTerm, More, list_of, SectionSubscripts, NoSubscript, Subscript, Triplet, Control}
-use Rattle.array_meaning.specs.Statements.{Item, Text, Value, Elements, SectionAssignment, ElementAssignment, Block, Done, Then, Statement, AssignScalar, AssignElement, AssignSection, If, Do, Where, Forall, Print, Stop, Exit, Cycle, Continue, Redistribute, Arms, NoArm, Arm}
+use Rattle.array_meaning.specs.Statements.{Item, Text, Value, Elements, SectionAssignment, ElementAssignment, WholeArray, Transformation, CircularShift, Transposition, Block, Done, Then, Statement, AssignScalar, AssignElement, AssignSection, Transform, If, Do, Where, Forall, Print, Stop, Exit, Cycle, Continue, Redistribute, Arms, NoArm, Arm}
 use Rattle.array_meaning.specs.State.{State}
 use Rattle.code_meaning.specs.Parallel.{shape_of}
 
@@ -20,6 +21,11 @@ abbrev pub subscript_count : SectionSubscripts → ℕ
 subscript_count NoSubscript = 0
 subscript_count (Subscript t subs) = subscript_count subs + 1
 subscript_count (Triplet first last step subs) = subscript_count subs + 1
+
+-- the rank of what is transformed: 1 at least, or 2
+abbrev pub IsRankOf : Transformation → ℕ → Type 0
+IsRankOf (CircularShift by) rank = 1 ≤ rank
+IsRankOf Transposition rank = rank ≡ 2
 
 module _ (shapes : List (List Dim)) where
   -- no array has more than 7 dimensions
@@ -67,12 +73,25 @@ module _ (shapes : List (List Dim)) where
   IsRankedItem (Value t) = IsRanked 0 t
   IsRankedItem (Elements a subs) = IsRanked 0 (Section a subs)
 
+  -- an array with the dimensions that are declared
+  abbrev pub IsDeclared : WholeArray → Type 0
+  IsDeclared x = (x.dims ≡ shape_of shapes x.array) × AreDims x.dims
+
+  -- two arrays of that rank
+  abbrev pub AreTransformed : (target source : WholeArray) → Transformation → Type 0
+  AreTransformed x y how = IsDeclared x × IsDeclared y × (length y.dims ≡ length x.dims) × IsRankOf how (length x.dims)
+
+  abbrev pub IsRankedTransformation : Transformation → Type 0
+  IsRankedTransformation (CircularShift by) = IsRanked 0 by
+  IsRankedTransformation Transposition = ⊤
+
   abbrev mutual
     -- a statement, of which each expression does
     pub KeepsRanks : Statement → Type 0
     KeepsRanks (AssignScalar k t) = IsRanked 0 t
     KeepsRanks (AssignElement a ts t) = IsRanked 0 (Element a ts) × IsRanked 0 t
     KeepsRanks (AssignSection a subs t) = IsRanked 0 (Section a subs) × IsRanked 0 t
+    KeepsRanks (Transform x y how) = AreTransformed x y how × IsRankedTransformation how
     KeepsRanks (If arms other) = ArmsKeepRanks arms × BlockKeepsRanks other
     KeepsRanks (Do mark loop body) = IsRankedControl loop.control × BlockKeepsRanks body
     KeepsRanks (Where mask body others) = IsRanked 0 mask × AllByRecursion IsRankedMasked body × AllByRecursion IsRankedMasked others

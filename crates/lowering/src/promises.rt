@@ -16,7 +16,7 @@ ghost use Rattle.lowering.specs.Lowered.{IsState, IsTable, opening, MachineEnds,
 ghost use Rattle.nest_items.specs.BlockForms.{BlockHasForms};
 ghost use Rattle.fitting_states.specs.FittingStates.{BlockFits, InitialValuesFit, StateFits};
 ghost use Rattle.lowered_expressions.specs.WellFormed.{IsWellFormedBlock};
-ghost use Rattle.lowering.specs.Ranks.{AreFewDims, BlockKeepsRanks};
+ghost use Rattle.lowering.specs.Ranks.{AreFewDims, BlockKeepsRanks, declared_shapes};
 ghost use Rattle.machine_steps.specs.Layout.{AreOwned, IsDealt, Layout};
 ghost use Rattle.machine_steps.specs.SameLayouts.{is_same_layout};
 ghost use Rattle.code_meaning.specs.Beside.{Anchor};
@@ -26,11 +26,12 @@ ghost use Rattle.code_meaning.specs.ValidCode.{CodeTable, IsValid, IsValidNodeCo
 
 /// The machine with whole arrays ends over a program's code as the program does: with the first fault, its line, kind and tuple, and
 /// the bytes that were printed before it, or finished with the program's bytes, scalars and arrays. After the declared names there is
-/// room for as many copies as the code names, or more. Each nest of INDEPENDENT loops keeps the rules by its form, and all numbers are of 64 bits.
+/// room for as many copies as the code names, or more. Each nest of INDEPENDENT loops keeps the rules by its form, ranks are kept, and all
+/// numbers are of 64 bits.
 pub fn programs_lowered()
     ensures { (n room : ℕ) (table : ArrayTable) (moves : ℕ → List NewMapping) (body : Block) (s : State) (layouts : List Layout)
         → IsState n s → IsTable s table → block_copies n body ≤ room → length layouts ≡ n + room → IsWellFormedBlock n body → BlockHasForms body
-        → BlockFits body → StateFits s
+        → BlockKeepsRanks (declared_shapes s) body → BlockFits body → StateFits s
         → MachineEnds n table (opening n room moves body s layouts) (run_block body s) }
 {}
 
@@ -40,7 +41,7 @@ pub fn programs_lowered()
 pub fn trails_lowered()
     ensures { (n room : ℕ) (table : ArrayTable) (moves : ℕ → List NewMapping) (body : Block) (s : State) (layouts : List Layout)
         → IsState n s → IsTable s table → block_copies n body ≤ room → length layouts ≡ n + room → IsWellFormedBlock n body → BlockHasForms body
-        → BlockFits body → StateFits s
+        → BlockKeepsRanks (declared_shapes s) body → BlockFits body → StateFits s
         → MachinePasses n table moves (opening n room moves body s layouts) (run_block body s) (block_trail body s) }
 {}
 
@@ -49,7 +50,8 @@ pub fn outcomes_lowered()
     ensures { (names : List Entry) (room : ℕ) (moves : ℕ → List NewMapping) (body : syntax.Block) (table : ArrayTable) (layouts : List Layout)
         → IsTable (initial_state names) table → block_copies (length names) (resolved_block names body) ≤ room → length layouts ≡ length names + room
         → IsWellFormedBlock (length names) (resolved_block names body) → BlockHasForms (resolved_block names body)
-        → BlockFits (resolved_block names body) → InitialValuesFit names
+        → BlockKeepsRanks (declared_shapes (initial_state names)) (resolved_block names body) → BlockFits (resolved_block names body)
+        → InitialValuesFit names
         → MachineHas (length names) table
         (opening (length names) room moves (resolved_block names body) (initial_state names) layouts) (outcome names body) }
 {}

@@ -25,7 +25,7 @@ use Rattle.code_meaning.specs.Parallel as parallel
 use Rattle.node_code.specs.Parallel.{When, Assignment, Evaluation}
 use Rattle.code_meaning.specs.Parallel.{reads_at, spot_of, indices_in, evaluation_extents, forall_tuples, forall_spot, forall_mask_tuples, copy_spot}
 use Rattle.program_code.specs.ExpressionCode.{index_subs, index_form}
-use Rattle.lowered_expressions.specs.Passed.{Passed, IsMaskCopy, IsEvent, IsTrail}
+use Rattle.lowered_expressions.specs.Passed.{Passed, IsMaskCopy, AreSameForms, IsEvent, IsTrail}
 use Rattle.lowered_expressions.specs.WellFormed.{AreSubscripts, IsIndexed}
 use Rattle.message_text.specs.Parts.{Setting, subscripts_in, named_in, mask_reads, anchor_over, part_of, with_copy, with_copies, with_copied}
 use Rattle.message_text.specs.MessageText.{part_lines, redistribution_lines, event_lines, trail_lines}
@@ -80,8 +80,9 @@ module _ (nodes : ℕ) (names : List (List ℕ)) (shapes : List (List Dim)) (map
       computes = λ node t. computes_left ls node (in_bounds ls (Some record { row = e i; at = t }));
     }
 
-    forall-same : (q : Assignment) (beside : Option AnchorText) (axes : List Sequence) (ts : Terms) (t : Term) → selections_in slots q.over ≡ map Along axes → q.left ≡ index_subs ts → q.right ≡ index_form t
-        → IsMaskCopy (length scalars) q.mask → AreSubscripts (length scalars) ts → IsIndexed (length scalars) t → (ls : List Layout)
+    forall-same : (q : Assignment) (beside : Option AnchorText) (axes : List Sequence) (ts : Terms) (t : Term) → selections_in slots q.over ≡ map Along axes
+        → q.left ≡ index_subs ts → AreSameForms slots q.right (index_form t) → IsMaskCopy (length scalars) q.mask
+        → AreSubscripts (length scalars) ts → IsIndexed (length scalars) t → (ls : List Layout)
         → par_part ls (forall_tuples s.shapes q) (forall_spot s.shapes q) slots ≡ part_of s ls scalars (ElementsAssigned (is_some q.mask) beside axes q.array ts t)
     forall-same q beside axes ts t over left right masks oks ok ls = λ i. record {
       tuples = space_count (sizes i);
@@ -99,7 +100,7 @@ module _ (nodes : ℕ) (names : List (List ℕ)) (shapes : List (List Dim)) (map
             ≡ mask_reads scalars (is_some q.mask) u ++ named_in s.shapes scalars (indices_at axes u) t
         reads-same u =
             ap (λ l. l ++ reads_at s.shapes (at u) (elemental_at slots (at u) q.right)) (masks-same scalars q.mask masks u)
-            ∙ ap (λ f. mask_reads scalars (is_some q.mask) u ++ reads_at s.shapes (at u) (elemental_at slots (at u) f)) right
+            ∙ ap (λ r. mask_reads scalars (is_some q.mask) u ++ reads_at s.shapes (at u) r) (right (at u))
             ∙ ap (λ y. mask_reads scalars (is_some q.mask) u ++ reads_at s.shapes y (elemental_at slots y (index_form t))) (indices-same q.over slots axes over u)
             ∙ ap (λ l. mask_reads scalars (is_some q.mask) u ++ l) (named-same s.shapes scalars slots holds (indices_at axes u) t ok)
 

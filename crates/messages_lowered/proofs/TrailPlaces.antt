@@ -5,9 +5,9 @@ use Rattle.std.proofs.lemmas.List.{length-set}
 use Rattle.hpf_base.specs.ElementOrder.{product}
 use Rattle.op_tables.specs.Operators.{wrapped}
 use Rattle.array_meaning.specs.Terms.{Term, Number, Scalar, Index, Element, Section, Apply, Reduce, Terms, NoTerm, More, SectionSubscripts, NoSubscript, Subscript, Triplet, Control, list_of}
-use Rattle.array_meaning.specs.Statements.{SectionAssignment, ElementAssignment, Item, Text, Value, Elements, Nest, Block, Done, Then, Statement, AssignScalar, AssignElement, AssignSection, If, Do, Where, Forall, Print, Stop, Exit, Cycle, Continue, Redistribute, Mark, Unmarked, Outermost, Arms, NoArm, Arm}
+use Rattle.array_meaning.specs.Statements.{SectionAssignment, ElementAssignment, WholeArray, Transformation, CircularShift, Transposition, Item, Text, Value, Elements, Nest, Block, Done, Then, Statement, AssignScalar, AssignElement, AssignSection, Transform, If, Do, Where, Forall, Print, Stop, Exit, Cycle, Continue, Redistribute, Mark, Unmarked, Outermost, Arms, NoArm, Arm}
 use Rattle.array_meaning.specs.declared.faults.FaultKind.{FaultKind}
-use Rattle.array_meaning.specs.declared.faults.FaultKind.TheVariants.{SpaceLimit, NotOneToOne}
+use Rattle.array_meaning.specs.declared.faults.FaultKind.TheVariants.{Shape, SpaceLimit, NotOneToOne}
 use Rattle.array_meaning.specs.Faults.{Cause, ◌>>=◌, fails}
 use Rattle.array_meaning.specs.State.{State, set_scalar, place_in, store, store_all}
 use Rattle.array_meaning.specs.Runs.{Completion, Normal, Exited, Cycled, Run, normal, if_normal, then_do, with_value, one_step}
@@ -19,6 +19,7 @@ use Rattle.array_meaning.specs.Elementals.{Elemental, sections, own_size, own_ex
 use Rattle.array_meaning.specs.Expressions.{value, values, elemental, selections, index_values, all_index_values}
 use Rattle.array_meaning.specs.ArrayAssignments.{Mask, mask_of, negated_mask, store_at, if_true, assign_elemental, assign_section, assign_where, assign_all_where, run_where}
 use Rattle.array_meaning.specs.Forall.{index_extents, indices_at, all_subscripts, check, check_limits, check_one_to_one, is_forall_in_limits, is_one_to_one, mask_over, assign_forall, assign_all_forall, run_forall}
+use Rattle.array_meaning.specs.Transformations.{has_shape, shift_of, transformed, transform}
 use Rattle.array_meaning.specs.Iterations.{values_of, nest_axes, iteration_count, in_turns, turn_value}
 use Rattle.array_meaning.specs.Touches.{iteration_touches}
 use Rattle.array_meaning.specs.Clashes.{Clash, first_clash}
@@ -26,7 +27,7 @@ use Rattle.array_meaning.specs.NestLimits.{is_nest_in_limits}
 use Rattle.array_meaning.specs.NestEntry.{unless_clash, entered}
 use Rattle.array_meaning.specs.Execution as meaning
 use Rattle.array_meaning.specs.Execution.{assign_scalar, assign_element, item_bytes, all_item_bytes, print, iterate, condition, run, run_arms, run_block}
-use Rattle.statement_trail.specs.Trail.{Event, Trail, Reduced, WhereMask, SectionAssigned, ForallMask, OfNest, reached, after_value, after_run, over_own_space, value_trail, values_trail, elemental_trail, elementals_trail, selections_trail, control_trail, all_controls_trail, section_trail, where_trail, forall_trail, forall_mask_trail, forall_parts_trail, if_not_empty, item_trail, all_items_trail, block_parts, statement_parts, arms_parts, nest_trail, marked_trail, after_iteration, iterate_trail, trail, arms_trail, block_trail}
+use Rattle.statement_trail.specs.Trail.{Event, Trail, Reduced, WhereMask, SectionAssigned, ForallMask, OfNest, reached, after_value, after_run, over_own_space, value_trail, values_trail, elemental_trail, elementals_trail, selections_trail, control_trail, all_controls_trail, section_trail, where_trail, forall_trail, forall_mask_trail, forall_parts_trail, if_not_empty, shift_trail, transform_trail, item_trail, all_items_trail, block_parts, statement_parts, arms_parts, nest_trail, marked_trail, after_iteration, iterate_trail, trail, arms_trail, block_trail}
 use Rattle.statement_trail.specs.Anchors.{AnchorText, forall_anchor, where_anchor}
 use Rattle.statement_trail.specs.NestParts.{EnteredNest, ConditionPart, has_statement, conditions_in, conditions_by, in_trip, indices_after, indices_by, entered_nest}
 use Rattle.nest_syntax.specs.Asked.{tested_asked}
@@ -189,6 +190,11 @@ module _ (n : ℕ) where
       by_count axes false =
           then-keeps (one_step line s (check_limits axes (all_subscripts mask body) s)) (checked axes) (limits-keep line axes (all_subscripts mask body) s h) (checked-keeps axes)
 
+  transform-keeps : (x y : WholeArray) (how : Transformation) (s : State) → Places s → IfOk (transform x y how s) Places
+  transform-keeps x y how s h =
+      bound Places (shift_of s how) (λ k. if has_shape x y how then Ok (store_all s x.array (transformed x y how k s)) else fails Shape) (λ k.
+      if-keeps (has_shape x y how) (Ok (store_all s x.array (transformed x y how k s))) (fails Shape) (stores-keep x.array s (transformed x y how k s) h) tt)
+
   either-keeps : (b : Bool) (one other : State → Run) (s : State) → Places (one s).state → Places (other s).state → Places ((if b then one else other) s).state
   either-keeps true one other s f g = f
   either-keeps false one other s f g = g
@@ -202,6 +208,7 @@ module _ (n : ℕ) where
         (bound Places (values [] s ts >>= place_in s a) (λ k. value [] s right >>= (λ v. Ok (store s a k v))) (λ k.
         bound Places (value [] s right) (λ v. Ok (store s a k v)) (λ v. h)))
     run-keeps (AssignSection a subs right) line s h = step-keeps line s (assign_section a subs right s) h (assign-section-keeps a subs right s h)
+    run-keeps (Transform x y how) line s h = step-keeps line s (transform x y how s) h (transform-keeps x y how s h)
     run-keeps (If arms other) line s h = arms-keep arms (run_block other) (block-keeps other) s h
     run-keeps (Do mark loop body) line s h =
         valued-keeps line s (index_values s loop.control)
@@ -251,6 +258,10 @@ module _ (n : ℕ) where
     by Normal = go r.state h
     by Cycled = go r.state h
     by c = tt
+
+  if-tells : (b : Bool) (T : Trail) → HavePlaces n T → HavePlaces n (if b then T else [])
+  if-tells true T g = g
+  if-tells false T g = tt
 
   module _ (line : ℕ) (s : State) (h : Places s) where
     one : (event : Event) → HavePlaces n (reached line s event)
@@ -348,6 +359,15 @@ module _ (n : ℕ) where
         valued (space_size (unwrap_or ns (extents ds)) (ds ∷ sections x)) (λ m. reached line s (SectionAssigned (is_some ns) beside (unwrap_or ns (extents ds)) a ds x))
         (λ m. one (SectionAssigned (is_some ns) beside (unwrap_or ns (extents ds)) a ds x))))))
 
+    shift-tells : (how : Transformation) → HavePlaces n (shift_trail line s how)
+    shift-tells (CircularShift by) = value-tells by
+    shift-tells Transposition = tt
+
+    transform-tells : (x y : WholeArray) (how : Transformation) → HavePlaces n (transform_trail x y how line s)
+    transform-tells x y how =
+        both (shift_trail line s how) _ (shift-tells how)
+        (valued (shift_of s how) _ (λ k. if-tells (has_shape x y how) _ (h, tt)))
+
     forall-mask-tells : (beside : Option AnchorText) (axes : List Sequence) (mask : Option Term) → HavePlaces n (forall_mask_trail line s beside axes mask)
     forall-mask-tells beside axes None = tt
     forall-mask-tells beside axes (Some t) = one (ForallMask beside axes t)
@@ -402,6 +422,7 @@ module _ (n : ℕ) where
     indices-keep (AssignScalar x t) s h = h
     indices-keep (AssignElement a ts t) s h = h
     indices-keep (AssignSection a subs t) s h = h
+    indices-keep (Transform x y how) s h = h
     indices-keep (If arms other) s h = h
     indices-keep (Where mask body others) s h = h
     indices-keep (Forall controls mask body) s h = h
@@ -426,17 +447,15 @@ module _ (n : ℕ) where
       statement-parts-tell (If arms other) guard k line s h =
           let last : List ℕ → ℕ → Trail = λ earlier k. if has_statement other
           then reached 0 s (OfNest nest (tested_asked guard earlier) (ConditionPart k None)) ++ block_parts nest (Some k) (k + 1) other s else [] in
-          arms-parts-tell arms guard [] k last s h (λ earlier k. by (has_statement other) (reached 0 s (OfNest nest (tested_asked guard earlier) (ConditionPart k None)) ++ block_parts nest (Some k) (k + 1) other s)
+          arms-parts-tell arms guard [] k last s h (λ earlier k.
+          if-tells (has_statement other) (reached 0 s (OfNest nest (tested_asked guard earlier) (ConditionPart k None)) ++ block_parts nest (Some k) (k + 1) other s)
           (h, block-parts-tell other (Some k) (k + 1) s h))
-        where
-          by : (b : Bool) (T : Trail) → HavePlaces n T → HavePlaces n (if b then T else [])
-          by true T g = g
-          by false T g = tt
       statement-parts-tell (Do mark loop body) guard k line s h =
           let p = values_of s loop in
           turns-tell (λ x. block_parts nest guard k body (in_trip (indices_after body) loop.index p s x)) (λ x.
           block-parts-tell body guard k (in_trip (indices_after body) loop.index p s x) (trip-keeps (indices_after body) (indices-after-keep body) loop.index p s h x)) p.count
       statement-parts-tell (AssignSection a subs t) guard k line s h = tt
+      statement-parts-tell (Transform x y how) guard k line s h = tt
       statement-parts-tell (Where mask body others) guard k line s h = tt
       statement-parts-tell (Forall controls mask body) guard k line s h = tt
       statement-parts-tell (Print items) guard k line s h = tt
@@ -514,6 +533,7 @@ module _ (n : ℕ) where
         both (values_trail line s ts) (after_value (values [] s ts >>= place_in s a) (λ k. value_trail line s right)) (values-tell line s h ts)
         (valued (values [] s ts >>= place_in s a) (λ k. value_trail line s right) (λ k. value-tells line s h right))
     tells (AssignSection a subs right) line s h = section-tells line s h None None a subs right
+    tells (Transform x y how) line s h = transform-tells line s h x y how
     tells (If arms other) line s h = arms-tell arms (block_trail other) (block-tells other) s h
     tells (Do mark loop body) line s h =
         let turns : Sequence → State → Trail = λ p. iterate_trail p.count loop.index p.first p.step (run_block body) (block_trail body) in

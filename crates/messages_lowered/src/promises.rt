@@ -17,11 +17,14 @@ ghost use Rattle.machine_steps.specs.Layout.{Layout};
 ghost use Rattle.code_meaning.specs.Instructions.{ArrayTable};
 ghost use Rattle.node_code.specs.Instructions.{NewMapping};
 ghost use Rattle.well_formed.specs.Lowered.{IsState, IsTable, opening};
+ghost use Rattle.well_formed.specs.Ranks.{BlockKeepsRanks, declared_shapes};
 ghost use Rattle.program_code.specs.StatementCode.{block_copies};
 ghost use Rattle.lowered_expressions.specs.WellFormed.{IsWellFormedBlock};
 ghost use Rattle.nest_items.specs.BlockForms.{BlockHasForms};
 ghost use Rattle.fitting_states.specs.FittingStates.{BlockFits, ProgramFits, StateFits};
 ghost use Rattle.messages_lowered.specs.PassedText.{MachineHasText, setting_by};
+
+use well_formed::accepted_trails_lowered;
 
 /// The machine with whole arrays ends over a program's code as the program does, and the text of `messages` by what it passes on its way
 /// is that of the program's trail, however many nodes there are, whatever they call the declared names, and however these lie at the start.
@@ -29,7 +32,7 @@ pub fn texts_lowered()
     ensures { (n room : ℕ) (table : ArrayTable) (moves : ℕ → List NewMapping) (nodes : ℕ) (names : List (List ℕ)) (shapes : List (List Dim))
         (body : Block) (s : State) (layouts starts : List Layout)
         → IsState n s → IsTable s table → block_copies n body ≤ room → length layouts ≡ n + room → length starts ≡ n → IsWellFormedBlock n body → BlockHasForms body
-        → BlockFits body → StateFits s
+        → BlockKeepsRanks (declared_shapes s) body → BlockFits body → StateFits s
         → MachineHasText n table (setting_by nodes names shapes table.maps moves) starts (opening n room moves body s layouts) (run_block body s)
         (block_trail body s) }
 {}
@@ -44,4 +47,6 @@ pub fn accepted_texts_lowered()
         → MachineHasText (length (entries p)) table (setting_by nodes names shapes table.maps moves) starts
         (opening (length (entries p)) room moves (resolved_block (entries p) p.body) (initial_state (entries p)) layouts)
         (run_block (resolved_block (entries p) p.body) (initial_state (entries p))) (serial_trail p) }
-{}
+{
+    accepted_trails_lowered();
+}

@@ -5,7 +5,7 @@ use Rattle.std.specs.List.{list_all, list_any}
 use Rattle.std.proofs.lemmas.Bool.Decides.{nat_tests}
 use Rattle.op_tables.specs.declared.op.Op.{Op}
 use Rattle.op_tables.specs.declared.op.Op.TheVariants as op
-use Rattle.op_tables.specs.Arguments.{takes, is_reduction, is_inquiry, is_processor_count}
+use Rattle.op_tables.specs.Arguments.{takes, is_reduction, is_transformation, is_transformational, is_inquiry, is_processor_count}
 use Rattle.op_tables.specs.Operators.{operator_value}
 use Rattle.syntax_tree.specs.Expression.{Expression, Number, Truth, Name as Alone, Element, Call, Unary, Binary, Closed, Part, One, Parts, End, More}
 use Rattle.expression_rules.specs.declared.dims.Dim.{Dim}
@@ -97,7 +97,7 @@ call_later : (o : Op) (a b : Option Symbol) (fs gs xs ys : Evaluated (List ℤ))
     Later (called_value None o a fs xs) (called_value None o b gs ys)
 call_later o a b fs gs xs ys k f g =
     if_later (is_inquiry o) _ _ _ _ (array_later o a b xs ys k g)
-    (if_later (is_processor_count o) _ _ _ _ (λ n h. h) (if_later (is_reduction o) _ _ _ _ (λ n h. h) (elemental_later o fs gs f)))
+    (if_later (is_processor_count o) _ _ _ _ (λ n h. h) (if_later (is_transformational o) _ _ _ _ (λ n h. h) (elemental_later o fs gs f)))
 
 nothing_stays : (b : Option Symbol) → Stays None b
 nothing_stays b s h = absurd (true≢false (sym (ap is_some h)))
@@ -278,6 +278,10 @@ counted_after : (t : SymbolTable) (ps : Parts) (s : Symbol) (ns : List ℤ) → 
 counted_after t End s ns a h = absurd (first_none s a)
 counted_after t (More q ps) s ns a h = ap suc (counted t ps ns h)
 
+no_first : (a b : Bool) → (a || b) ≡ false → a ≡ false
+no_first false b h = refl
+no_first true b h = h
+
 -- which type a call has
 inquiry_counts_no : (o : Op) → is_inquiry o ≡ true → is_processor_count o ≡ false
 inquiry_counts_no op.Nodes h = absurd (true≢false (sym h))
@@ -325,9 +329,9 @@ module _ (t u : SymbolTable) (k : Kept t u) (right : (x : Name) (s : Symbol) →
 
   call_lacks : (o : Op) (ps : Parts) → OneLacks (values None t ps) (types_and_ranks Statement u ps) →
       (values_after None t ps ≡ Unknown → are_inquired (types_and_ranks Statement u ps) ≡ false) → Lacks (value None t (Call o ps)) (type_and_rank Statement u (Call o ps))
-  call_lacks o ps g f h = by (is_inquiry o) (is_processor_count o) (is_reduction o) refl refl refl h
+  call_lacks o ps g f h = by (is_inquiry o) (is_processor_count o) (is_transformational o) refl refl refl h
     where
-      by : (i p r : Bool) → is_inquiry o ≡ i → is_processor_count o ≡ p → is_reduction o ≡ r →
+      by : (i p r : Bool) → is_inquiry o ≡ i → is_processor_count o ≡ p → is_transformational o ≡ r →
           (if i then of_array None o (named_first t ps) (values_after None t ps) else (if p then Invalid else
           (if r then Invalid else elemental_value o (values None t ps)))) ≡ Unknown →
           called_type Statement u o ps (types_and_ranks Statement u ps) ≡ None
@@ -339,7 +343,7 @@ module _ (t u : SymbolTable) (k : Kept t u) (right : (x : Name) (s : Symbol) →
       by false true r a b c h = absurd (invalid_unknown _ refl h)
       by false false true a b c h = absurd (invalid_unknown _ refl h)
       by false false false a b c h =
-          elemental_type o u ps (types_and_ranks Statement u ps) a b c
+          elemental_type o u ps (types_and_ranks Statement u ps) a b (no_first (is_reduction o) (is_transformation o) c)
           (procedure_lacks o (values None t ps) (types_and_ranks Statement u ps) (count_of ps) g (λ ns. counted t ps ns) h)
 
   mutual

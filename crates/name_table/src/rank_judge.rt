@@ -1,14 +1,15 @@
-//! The rules of types and ranks in statements (Fortran 95, 7.4.1.4, 7.5.1.1, 7.5.3, 7.5.4, 8.1.2, 8.1.4 and 9.4.2).
+//! The rules of types and ranks in statements (Fortran 95, 7.4.1.4, 7.5.1.1, 7.5.3, 7.5.4, 8.1.2, 8.1.4, 9.4.2 and 13.14).
 
-ghost use Rattle.std.specs.Prelude.{◌≡◌, ◌&&◌, ◌||◌, nat_eq, [], ◌∷◌, IfOk};
+ghost use Rattle.std.specs.Prelude.{◌≡◌, ◌&&◌, ◌||◌, nat_eq, nat_le, [], ◌∷◌, IfOk};
 ghost use Rattle.std.specs.List.{flat_map};
 ghost use Rattle.hpf_base.specs.FirstBreach.{least};
-ghost use Rattle.syntax_tree.specs.Expression.{expression};
+ghost use Rattle.syntax_tree.specs.Expression.{arguments_of, expression};
+ghost use Rattle.op_tables.specs.declared.op.Op.TheVariants as op;
 ghost use Rattle.syntax_tree.specs.Statement.{block_of, designator, variable};
 ghost use Rattle.expression_rules.specs.declared.types.Context.TheVariants as context;
-ghost use Rattle.expression_rules.specs.Types.{if_typed, type_and_rank};
+ghost use Rattle.expression_rules.specs.Types.{if_typed, is_integer_scalar, type_and_rank};
 ghost use Rattle.statement_walk.specs.Heads.{all_heads};
-ghost use Rattle.name_table.specs.Places.{all_meet, context_of, is_designator, is_element, is_integer, is_mask, is_masked_by, is_right_of, meets, place, places, ArrayElement, IntegerScalar, LogicalArray, LogicalScalar, MaskedArray, RightOf, Variable};
+ghost use Rattle.name_table.specs.Places.{all_meet, context_of, is_designator, is_element, is_integer, is_mask, is_masked_by, is_right_of, is_transformed, meets, place, places, transforms_to, whole_rank, ArrayElement, AssignedTo, IntegerScalar, LogicalArray, LogicalScalar, MaskedArray, RightOf, Variable};
 ghost use Rattle.name_table.specs.RankRules.{rank_breaches_at};
 ghost use Rattle.statement_walk.specs.Views.{head_of};
 
@@ -22,7 +23,7 @@ use expression_rules::{
 use hpf_base::{Name, Reason, Refusal};
 use statement_walk::{Head, Judge, first_bad};
 use std::alloc::{AllocError, Global};
-use syntax_tree::{Expr, Ref, Stmt};
+use syntax_tree::{Expr, Op, Ref, Stmt};
 
 /// Judges the types and ranks of a statement.
 #[derive(Clone, Copy)]
@@ -199,11 +200,128 @@ fn is_assignment(
     right: &Expr,
 ) -> Result<bool, AllocError>
     ensures { IfOk result (λ b. b ≡ all_meet context.Statement scope.now (place Variable (designator (variable left.now))
-        ∷ place (RightOf (designator (variable left.now))) (expression right.now) ∷ [])) }
+        ∷ place (AssignedTo (designator (variable left.now))) (expression right.now) ∷ [])) }
 {
+    let rank = whole_rank(alloc, scope, left)?;
+    let transformed = is_transformed(alloc, scope, rank, right)?;
     let left = variable_type(alloc, scope, left)?;
     let right = type_and_rank(alloc, Context::Statement, scope, right)?;
-    Ok(is_right_of(left, right))
+    Ok(left.is_some() && (is_right_of(left, right) || transformed))
+}
+
+/// The rank of an array that is named by itself, and 0 of an element or a section.
+#[tactic(auto, using(syntax_tree::proofs::Designators::designated))]
+fn whole_rank(alloc: Global, scope: &Scope<'_>, left: &Ref) -> Result<usize, AllocError>
+    ensures { IfOk result (λ r. r ≡ whole_rank scope.now (designator (variable left.now))) }
+{
+    match &left.subs {
+        Some(_) => Ok(0),
+        None => {
+            let found = reference_type(alloc, Context::Statement, scope, left)?;
+            match found {
+                None => Ok(0),
+                Some(what) => Ok(what.rank),
+            }
+        }
+    }
+}
+
+/// Whether CSHIFT or TRANSPOSE of a whole array stands on the right side of a whole array of this rank.
+fn is_transformed(
+    alloc: Global,
+    scope: &Scope<'_>,
+    rank: usize,
+    right: &Expr,
+) -> Result<bool, AllocError>
+    ensures { IfOk result (λ b. b ≡ is_transformed context.Statement scope.now rank (expression right.now)) }
+{
+    match right {
+        Expr::Call(op, arguments) => transforms_to(alloc, scope, rank, *op, arguments),
+        _ => Ok(false),
+    }
+}
+
+/// Whether a procedure with these arguments is such a transformation into a whole array of this rank.
+fn transforms_to(
+    alloc: Global,
+    scope: &Scope<'_>,
+    rank: usize,
+    op: Op,
+    arguments: &[Expr],
+) -> Result<bool, AllocError>
+    ensures { IfOk result (λ b. b ≡ transforms_to context.Statement scope.now rank op (arguments_of arguments.now)) }
+{
+    match op {
+        Op::CShift => is_shifted(alloc, scope, rank, arguments),
+        Op::Transpose => is_transposed(alloc, scope, rank, arguments),
+        _ => Ok(false),
+    }
+}
+
+/// Whether these are the arguments of a CSHIFT: a whole array, and how far it is shifted.
+fn is_shifted(
+    alloc: Global,
+    scope: &Scope<'_>,
+    rank: usize,
+    arguments: &[Expr],
+) -> Result<bool, AllocError>
+    ensures { IfOk result (λ b. b ≡ transforms_to context.Statement scope.now rank op.CShift (arguments_of arguments.now)) }
+{
+    let Some((source, rest)) = arguments.split_first() else {
+        return Ok(false);
+    };
+    let Some((by, more)) = rest.split_first() else {
+        return Ok(false);
+    };
+    if let Some(_) = more.split_first() {
+        return Ok(false);
+    }
+    let source = source_rank(alloc, scope, source)?;
+    let by = type_and_rank(alloc, Context::Statement, scope, by)?;
+    Ok(are_shifted(rank, source, by))
+}
+
+/// Whether the ranks of a CSHIFT are one, and it is shifted by an integer scalar.
+fn are_shifted(rank: usize, source: usize, by: Option<TypeAndRank>) -> bool
+    ensures { result ≡ (nat_le 1 rank && (nat_eq source rank && if_typed is_integer_scalar by)) }
+{
+    1 <= rank && source == rank && is_integer_scalar(by)
+}
+
+/// Whether this is the argument of a TRANSPOSE: a whole array.
+fn is_transposed(
+    alloc: Global,
+    scope: &Scope<'_>,
+    rank: usize,
+    arguments: &[Expr],
+) -> Result<bool, AllocError>
+    ensures { IfOk result (λ b. b ≡ transforms_to context.Statement scope.now rank op.Transpose (arguments_of arguments.now)) }
+{
+    let Some((source, more)) = arguments.split_first() else {
+        return Ok(false);
+    };
+    if let Some(_) = more.split_first() {
+        return Ok(false);
+    }
+    let source = source_rank(alloc, scope, source)?;
+    Ok(are_transposed(rank, source))
+}
+
+/// Whether both ranks of a TRANSPOSE are 2.
+fn are_transposed(rank: usize, source: usize) -> bool
+    ensures { result ≡ (nat_eq rank 2 && nat_eq source 2) }
+{
+    rank == 2 && source == 2
+}
+
+/// The rank of an array that an expression names by itself, and 0 of any other expression.
+fn source_rank(alloc: Global, scope: &Scope<'_>, e: &Expr) -> Result<usize, AllocError>
+    ensures { IfOk result (λ r. r ≡ whole_rank scope.now (expression e.now)) }
+{
+    match e {
+        Expr::Ref(reference) => whole_rank(alloc, scope, reference),
+        _ => Ok(0),
+    }
 }
 
 /// Whether the sides of an assignment under a mask are what they must be, the left one an array of the mask's rank.

@@ -12,7 +12,7 @@ use Rattle.nest_order.specs.Nest.{evaluated}
 use Rattle.nest_syntax.specs.NestKinds.{Kind, has_copies}
 use Rattle.nest_order.specs.Copies.{scalar_at}
 use Rattle.array_meaning.specs.Terms.{Term, Number, Scalar, Index, Element, Section, Apply, Reduce, Terms, NoTerm, More}
-use Rattle.array_meaning.specs.Statements.{Loop, Block, Done, Then, Statement, AssignScalar, AssignElement, AssignSection, If, Do, Where, Forall, Print, Stop, Exit, Cycle, Continue, Redistribute, Mark, Arms, NoArm, Arm}
+use Rattle.array_meaning.specs.Statements.{Loop, Block, Done, Then, Statement, AssignScalar, AssignElement, AssignSection, Transform, If, Do, Where, Forall, Print, Stop, Exit, Cycle, Continue, Redistribute, Mark, Arms, NoArm, Arm}
 use Rattle.array_meaning.specs.Faults.{Cause, Fault, ◌>>=◌}
 use Rattle.array_meaning.specs.State.{State, no_array, set_scalar, store, place_in}
 use Rattle.array_meaning.specs.Runs.{Run, then_do, with_value, one_step}
@@ -251,6 +251,7 @@ module _ (kinds : ℕ → Kind) where
         (subst (λ x. ElementEnds free s r (f z) m line a next rest (values [] y ts >>= place_in y a) (values [] y ts >>= place_in y a) x (value [] y t)) (sym (value_same free None r y t same h.2))
         (element_ends free s r z m line a f next rest h.0 same rows ind go (values [] y ts >>= place_in y a) (value [] y t)))
     statement_ends (AssignSection a subs t) line free quiet s h f next rest go r z m same rows ind = absurd h
+    statement_ends (Transform x y how) line free quiet s h f next rest go r z m same rows ind = absurd h
     statement_ends (If arms other) line free quiet s h f next rest go r z m same rows ind =
         let loops = and_parts (have_no_loop arms) (has_no_loop other) h.2 in
         seq free s z (run_arms arms (run_block other) r) (branches_do (branches_of s arms (items_of s other)) m) f next (does rest)

@@ -8,7 +8,7 @@ use Rattle.hpf_base.specs.ElementOrder.{product}
 use Rattle.array_meaning.specs.declared.limits.TheConstants.{MAX_TUPLES}
 use Rattle.op_tables.specs.Operators.{wrapped}
 use Rattle.array_meaning.specs.Terms.{Term, Number, Scalar, Index, Element, Section, Apply, Reduce, Terms, NoTerm, More, list_of}
-use Rattle.array_meaning.specs.Statements.{Loop, Nest, Block, Done, Then, Statement, AssignScalar, AssignElement, AssignSection, If, Do, Where, Forall, Print, Stop, Exit, Cycle, Continue, Redistribute, Arms, NoArm, Arm}
+use Rattle.array_meaning.specs.Statements.{Loop, Nest, Block, Done, Then, Statement, AssignScalar, AssignElement, AssignSection, Transform, If, Do, Where, Forall, Print, Stop, Exit, Cycle, Continue, Redistribute, Arms, NoArm, Arm}
 use Rattle.array_meaning.specs.declared.faults.FaultKind.TheVariants.{SpaceLimit, Interfere}
 use Rattle.array_meaning.specs.Faults.{Cause, Between, ◌>>=◌, fails}
 use Rattle.array_meaning.specs.State.{State, scalar, array, set_scalar, place_in, if_in_bounds, element_place}
@@ -183,6 +183,7 @@ module _ (n : ℕ) where
     same_touches_in assigned hidden r s h (AssignElement a ts t) named =
         ap₂ (λ xs p. xs ++ element_touch true a p) (same_reads hidden r s h t named.1) (same_place r s h a ts named.0)
     same_touches_in assigned hidden r s h (AssignSection a subs t) named = refl
+    same_touches_in assigned hidden r s h (Transform x y how) named = refl
     same_touches_in assigned hidden r s h (If arms other) named =
         same_touches_in_arms assigned hidden r s h arms named.0 (touches assigned hidden r other) (touches assigned hidden s other) (same_touches assigned hidden r s h other named.1)
     same_touches_in assigned hidden r s h (Do mark loop body) named =
@@ -254,6 +255,7 @@ module _ (n : ℕ) where
     same_limits indices below r s h m (AssignElement a ts t) named =
         same_linears indices r s h below (list_of ts ++ subscripts_in t) (all_join IsOfScalars (list_of ts) (subscripts_in t) (all_listed ts named.0) (subscripts_named t named.1))
     same_limits indices below r s h m (AssignSection a subs t) named = refl
+    same_limits indices below r s h m (Transform x y how) named = refl
     same_limits indices below r s h m (If arms other) named =
         ap₂ (λ a b. a && b) (same_arms_limits indices below r s h m arms named.0) (same_block_limits indices below r s h m other named.1)
     same_limits indices below r s h m (Do mark loop body) named =

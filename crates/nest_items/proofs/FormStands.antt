@@ -10,7 +10,7 @@ use Rattle.op_tables.specs.Operators.{wrapped, operator_value, value_of, is_zero
 use Rattle.nest_syntax.specs.NestKinds.{Kind}
 use Rattle.nest_syntax.specs.LinearOperators.{is_linear_operator}
 use Rattle.array_meaning.specs.Terms.{Term, Number, Scalar, Index, Element, Section, Apply, Reduce, Terms, NoTerm, More}
-use Rattle.array_meaning.specs.Statements.{Loop, Nest, Block, Done, Then, Statement, AssignScalar, AssignElement, AssignSection, If, Do, Where, Forall, Print, Stop, Exit, Cycle, Continue, Redistribute, Mark, Unmarked, Arms, NoArm, Arm}
+use Rattle.array_meaning.specs.Statements.{Loop, Nest, Block, Done, Then, Statement, AssignScalar, AssignElement, AssignSection, Transform, If, Do, Where, Forall, Print, Stop, Exit, Cycle, Continue, Redistribute, Mark, Unmarked, Arms, NoArm, Arm}
 use Rattle.array_meaning.specs.Faults.{Cause, ◌>>=◌, fails, with_more}
 use Rattle.array_meaning.specs.declared.faults.FaultKind.TheVariants.{ZeroStride}
 use Rattle.array_meaning.specs.State.{State, scalar, set_scalar}
@@ -170,6 +170,7 @@ module _ (kinds : ℕ → Kind) where
     )
     statement_stands free s Continue fit h = tt
     statement_stands free s (AssignSection a subs t) fit h = absurd h
+    statement_stands free s (Transform x y how) fit h = absurd h
     statement_stands free s (Where mask body others) fit h = absurd h
     statement_stands free s (Forall controls mask body) fit h = absurd h
     statement_stands free s (Print xs) fit h = absurd h

@@ -3,7 +3,7 @@ use Rattle.std.proofs.Common.{◌≡◌, ℕ, zero, suc, ◌<◌, ◌≤◌, ◌
 use Rattle.std.proofs.lemmas.Bool.{cases_eq}
 use Rattle.nest_order.specs.Turns.{after_turns}
 use Rattle.array_meaning.specs.State.{State, scalar, set_scalar}
-use Rattle.array_meaning.specs.Statements.{Loop, Block, Done, Then, AssignScalar, AssignElement, AssignSection, If, Do, Unmarked, Outermost, Where, Forall, Print, Stop, Exit, Cycle, Continue, Redistribute}
+use Rattle.array_meaning.specs.Statements.{Loop, Block, Done, Then, AssignScalar, AssignElement, AssignSection, Transform, If, Do, Unmarked, Outermost, Where, Forall, Print, Stop, Exit, Cycle, Continue, Redistribute}
 use Rattle.array_meaning.specs.declared.sections.Sequence.{Sequence}
 use Rattle.array_meaning.specs.Iterations.{values_of, turn_value}
 use Rattle.nest_items.specs.Settled.{settled, settled_by}
@@ -137,6 +137,7 @@ module _ (w : NestNames) (l b0 : ℕ) (entry : List ℤ) (s0 : State) (holds : H
     settles round (Then line (AssignScalar j t) rest) ok = settles round rest ok.1
     settles round (Then line (AssignElement a ts t) rest) ok = settles round rest ok.1
     settles round (Then line (AssignSection a subs t) rest) ok = absurd ok.0
+    settles round (Then line (Transform x y how) rest) ok = absurd ok.0
     settles round (Then line (If arms other) rest) ok = settles round rest ok.1
     settles round (Then line (Do Unmarked loop body) rest) ok =
         both (λ st z. settled_by st (Do Unmarked loop body) z) (λ st z. settled st rest z)

@@ -5,7 +5,7 @@ use Rattle.std.proofs.lemmas.Bool.{cases_eq, and_parts}
 use Rattle.nest_order.specs.Turns.{after_turns}
 use Rattle.array_meaning.specs.Faults.{Fault}
 use Rattle.array_meaning.specs.State.{State, scalar, set_scalar}
-use Rattle.array_meaning.specs.Statements.{Block, Done, Then, Statement, AssignScalar, AssignElement, AssignSection, If, Do, Unmarked, Outermost, Where, Forall, Print, Stop, Exit, Cycle, Continue, Redistribute, Arms, NoArm, Arm}
+use Rattle.array_meaning.specs.Statements.{Block, Done, Then, Statement, AssignScalar, AssignElement, AssignSection, Transform, If, Do, Unmarked, Outermost, Where, Forall, Print, Stop, Exit, Cycle, Continue, Redistribute, Arms, NoArm, Arm}
 use Rattle.array_meaning.specs.declared.sections.Sequence.{Sequence}
 use Rattle.array_meaning.specs.Iterations.{values_of, turn_value}
 use Rattle.code_meaning.specs.Flat.{slot}
@@ -74,6 +74,7 @@ module _ (w : NestNames) (l b0 : ℕ) (entry : List ℤ) (s0 : State) (holds : H
     still-in line round (AssignScalar k t) ok rest e b s next = next s
     still-in line round (AssignElement a ts t) ok rest e b s next = next s
     still-in line round (AssignSection a subs t) ok rest e b s next = absurd ok
+    still-in line round (Transform x y how) ok rest e b s next = absurd ok
     still-in line round (If arms other) ok rest e b s next =
         let h = and_parts (have_no_loop arms) (has_no_loop other) e in
         next (AfterArms (code_arms round arms ok.0 (else_arm w (code round other ok.1))) b s)
@@ -116,6 +117,7 @@ module _ (w : NestNames) (l b0 : ℕ) (entry : List ℤ) (s0 : State) (holds : H
     by-length (AssignScalar k t) st z = refl
     by-length (AssignElement a ts t) st z = refl
     by-length (AssignSection a subs t) st z = refl
+    by-length (Transform x y how) st z = refl
     by-length (If arms other) st z = refl
     by-length (Where mask body others) st z = refl
     by-length (Forall cs mask body) st z = refl
@@ -144,6 +146,7 @@ module _ (w : NestNames) (l b0 : ℕ) (entry : List ℤ) (s0 : State) (holds : H
     after-block round (Then line (AssignScalar k t) rest) ok st b s le h few z lz r = after-block round rest ok.1 st b s le h few z lz r
     after-block round (Then line (AssignElement a ts t) rest) ok st b s le h few z lz r = after-block round rest ok.1 st b s le h few z lz r
     after-block round (Then line (AssignSection a subs t) rest) ok st b s le h few z lz r = absurd ok.0
+    after-block round (Then line (Transform x y how) rest) ok st b s le h few z lz r = absurd ok.0
     after-block round (Then line (If arms other) rest) ok st b s le h few z lz r =
         let ea = else_arm w (code round other ok.0.1) in
         let both = and_parts (have_no_loop arms) (has_no_loop other) ok.0.2 in

@@ -79,7 +79,7 @@ module _ {I : Type 0} (meaning : I → Instr Fault) (code : List I) (is_quiet : 
   same-act = λ j. nest_act (copied w.kinds (one w.kinds)) c.row (λ i. same-items i j)
 
   abbrev number : ℕ → ℕ
-  number = act_number (trace texts counting (iterations_at w.over) c.stored coded None 0 c.slot entry)
+  number = act_number d.parts (trace texts counting (iterations_at w.over) c.stored coded None 0 c.slot entry)
 
   abbrev After : Storage → Type 0
   After = PlacedAfter meaning code is_quiet joined line printed c.pc (c.pc + length (code_of w c s body ok)) texts c.stored c.row (count_body coded) c.slot w.place w.is_row w.is_index
@@ -94,7 +94,7 @@ module _ {I : Type 0} (meaning : I → Instr Fault) (code : List I) (is_quiet : 
   machine-ends = nest-runs meaning code is_quiet joined line printed texts counting (is-counting c.line) (iterations_at w.over) (nest_layout w.table w.over w.beside) c.stored c.row
       (copied w.kinds (one w.kinds)) (action_at w s) (condition_at w s) coded c.slot c.pc n entry d w.place w.is_row w.is_index c.alike c.finals w.kinds start
       h.has h.room (takes w c.line c.slot entry s h.holds h.outside w.is_index [] body ok (λ k e. e)) h.outside (texts-mean w c.slot entry s h.holds) h.fit h.one_place h.memory
-      h.empty h.none_done h.apart h.few h.itself
+      h.empty h.apart h.few h.itself
       (parts.none-kept (faults act copies n number) (no_left act copies n number) copies n number)
       (λ k l rising e. parts.least-kept (faults act copies n number) (no_left act copies n number) copies n number k rising l e)
 

@@ -6,7 +6,7 @@ use Rattle.nest_order.specs.Items.{Items, Branches}
 use Rattle.nest_order.specs.Copies.{InIteration, in_iteration, items_in, branches_in}
 use Rattle.array_meaning.specs.Faults.{Fault}
 use Rattle.array_meaning.specs.State.{State, scalar, set_scalar}
-use Rattle.array_meaning.specs.Statements.{Block, Done, Then, Statement, AssignScalar, AssignElement, AssignSection, If, Do, Unmarked, Outermost, Where, Forall, Print, Stop, Exit, Cycle, Continue, Redistribute, Arms, NoArm, Arm}
+use Rattle.array_meaning.specs.Statements.{Block, Done, Then, Statement, AssignScalar, AssignElement, AssignSection, Transform, If, Do, Unmarked, Outermost, Where, Forall, Print, Stop, Exit, Cycle, Continue, Redistribute, Arms, NoArm, Arm}
 use Rattle.array_meaning.specs.declared.sections.Sequence.{Sequence}
 use Rattle.array_meaning.specs.Iterations.{values_of, turn_value, at_iteration, with_indices}
 use Rattle.code_meaning.specs.Flat.{slot}
@@ -105,6 +105,7 @@ module _ (w : NestNames) (l b0 : ℕ) (entry : List ℤ) (s0 : State) (holds : H
       takes-in line round (AssignScalar k t) ok rest q h = h
       takes-in line round (AssignElement a ts t) ok rest q h = h
       takes-in line round (AssignSection a subs t) ok rest q h = absurd ok
+      takes-in line round (Transform x y how) ok rest q h = absurd ok
       takes-in line round (If arms other) ok rest q h =
           (takes-arms round arms ok.0 (else_arm w (code round other ok.1)) q (else-takes (code round other ok.1) (takes round other ok.1 q)), h)
       takes-in line round (Do Unmarked loop body) ok rest q h =
@@ -191,6 +192,7 @@ module _ (w : NestNames) (l b0 : ℕ) (entry : List ℤ) (s0 : State) (holds : H
       items-in line round (AssignElement a ts t) ok rest others st b s le h few next =
           λ j. order.Then (in_iteration i (text_at line (h.state j) (ToElement a ts t))) (next s h few j)
       items-in line round (AssignSection a subs t) ok rest others st b s le h few next = absurd ok
+      items-in line round (Transform x y how) ok rest others st b s le h few next = absurd ok
       items-in line round (If arms other) ok rest others st b s le h few next =
           let eb = code round other ok.1 in
           let ea = else_arm w eb in

@@ -68,7 +68,6 @@ pub record IsBegun {I : Type 0} (meaning : I → Instr Fault) (code : List I) (i
   pub memory : IsPlacedMemory (nest_layout w.table w.over w.beside) entry w.place w.is_row w.kinds (iteration_count w.nest s) start
       (nest_entries c.finals c.stored (count_body (machine_body w c s body ok))) d
   pub empty : d.kept ≡ None
-  pub none_done : d.parts ≡ 0
   pub apart : AreApart c.finals
   pub few : (f : Final) → Contains c.finals f → final_slot f < c.slot
   pub itself : (l : Layout) → c.alike l l ≡ true

@@ -161,7 +161,7 @@ abbrev pub act : ℕ → ℕ → Storage → Effect Bool
 act = nest_act example_interpretation 1 (λ i. items_at example_counting example_action example_condition i example_body 2 example_slots)
 
 abbrev pub number : ℕ → ℕ
-number = act_number (trace example_texts example_counting example_size 2 example_body None 0 2 example_slots)
+number = act_number 0 (trace example_texts example_counting example_size 2 example_body None 0 2 example_slots)
 
 abbrev is_fault : Effect Bool → Bool
 is_fault Skip = false
@@ -233,7 +233,7 @@ module _ (none_law : (k : ℕ) → kept_acts act copies 2 number k ≡ None → 
   ends : Ends
   ends = nest-runs as_it_is example_code everywhere (pos 0) [] [] example_texts example_counting counting example_size example_layout 2 1 example_interpretation example_action example_condition
       example_body 2 0 2 example_slots example_data example_place example_rows example_indices always_alike example_finals example_kinds example_start
-      has (let l : 6 ≤ 6 = omega arith in l) takes hidden mean fit place memory refl refl (tt, tt) few (λ l. refl) none_law least_law
+      has (let l : 6 ≤ 6 = omega arith in l) takes hidden mean fit place memory refl (tt, tt) few (λ l. refl) none_law least_law
     where
       hidden : (x : ℕ) → 2 ≤ x → example_indices x ≡ false
       hidden zero le = absurd (omega (arith, le))

@@ -58,7 +58,7 @@ module _ {I A C F P Q : Type 0} (meaning : I → Instr F) (code : List I) (is_qu
   many = length (acts done)
 
   abbrev number : ℕ → ℕ
-  number = act_number done
+  number = act_number d.parts done
 
   -- the machine's data with the copies, and after the body
   abbrev es : List Entry
@@ -107,7 +107,7 @@ module _ {I A C F P Q : Type 0} (meaning : I → Instr F) (code : List I) (is_qu
       (takes : TakeSteps counting is_index body) (hidden : (x : ℕ) → b ≤ x → is_index x ≡ false)
       (mean : PlacedMean texts interpretation action_at condition_at place is_row is_index b s)
       (fit : PlacedTexts texts size layout stored row (count_body body) place is_row is_index copies n b s) (one_place : IsPlace place is_row)
-      (memory : IsPlacedMemory layout s place is_row kinds n start es d) (empty : d.kept ≡ None) (first : d.parts ≡ 0)
+      (memory : IsPlacedMemory layout s place is_row kinds n start es d) (empty : d.kept ≡ None)
       (apart : AreApart finals) (few : (f : Final) → Contains finals f → final_slot f < b) (alike_refl : (l : Layout) → alike l l ≡ true)
       (none_law : (k : ℕ) → kept_acts act copies n number k ≡ None → NoneKept (act_by (faults act copies n number) (no_left act copies n number)) copies n k)
       (least_law : (k : ℕ) (l : Kept F) → AreRising (faults act copies n number) (no_left act copies n number) number k → kept_acts act copies n number k ≡ Some l
@@ -120,23 +120,23 @@ module _ {I A C F P Q : Type 0} (meaning : I → Instr F) (code : List I) (is_qu
         (omega arith) (omega arith) (same-refl is_index b s)
         (λ i. sym (append-nil (nest_effects interpretation row (λ i. items_at counting action_at condition_at i body b s) i)))).0
 
-    follow : FollowActs place is_row layout copies n act number 0 0 done
-    follow = follow-all place is_row layout copies n act done does
+    follow : FollowActs place is_row layout copies n act number 0 d.parts done
+    follow = follow-all place is_row layout copies n act d.parts done does
 
     sized : size_of (layout d.layouts s) ≡ n
     sized = fit.laid d.layouts s (same-refl is_index b s)
 
-    opening : After place is_row one_place layout copies n act number 0 0 d1
+    opening : After place is_row one_place layout copies n act number 0 d.parts d1
     opening = record {
       rows = entered-placed layout s place is_row kinds n start es d memory sized;
       kept = (made-kept layout s es d).0 ∙ empty;
-      parts = (made-kept layout s es d).1 ∙ first;
+      parts = (made-kept layout s es d).1;
     }
 
     passed : (p : ℕ) × After place is_row one_place layout copies n act number many p d2
     passed =
         let e : 0 + many ≡ many = omega arith in
-        let r = all-after place is_row one_place layout copies n act number done 0 0 d1 opening follow in
+        let r = all-after place is_row one_place layout copies n act number done 0 d.parts d1 opening follow in
         (r.0, subst (λ x. After place is_row one_place layout copies n act number x r.0 d2) e r.1)
 
     same1 : SameSlots is_index b s s1
@@ -158,7 +158,7 @@ module _ {I A C F P Q : Type 0} (meaning : I → Instr F) (code : List I) (is_qu
 
     faulted : (l : Kept F) → d2.kept ≡ Some l → (i : ℕ) × (j : ℕ) × (f : F) × IsLeastKept act copies n many i j f × EndsFaulted meaning code is_quiet joined line printed pc s d f
     faulted l e =
-        let k = least-kept act copies n number least_law many (rise-all place is_row layout copies n act done does) l (sym passed.1.kept ∙ e) in
+        let k = least-kept act copies n number least_law many (rise-all place is_row layout copies n act d.parts done does) l (sym passed.1.kept ∙ e) in
         let m1 = At verdict_at s1 d2 in
         let m2 : Machine I F = record m1 { control = verdict_control (Some l) on (record { at = verdict_at; slots = s1; status = Running }); kept = None; parts = 0 } in
         let r = reaches-on meaning is_quiet (At pc s d) m1 m2 runs (
@@ -232,7 +232,7 @@ module _ {I A C F P Q : Type 0} (meaning : I → Instr F) (code : List I) (is_qu
       value-is m agrees (Lasts mr q x) r inside (of, kind, marks) =
           let unset = unset-marks layout s place is_row kinds n start finals stored (count_body body) d memory sized alike alike_refl mr q x inside in
           let paired : PairedMarks mr q done = paired-body texts counting size stored (count_body body) mr q marks.paired body None 0 b s tt (omega arith) in
-          let said = said-all place is_row one_place layout copies n act number many r q of.own marks.off no_fault done 0 0 d1 opening follow (subst (λ z. PairedMarks z q done) of.lies paired)
+          let said = said-all place is_row one_place layout copies n act number many r q of.own marks.off no_fault done 0 d.parts d1 opening follow (subst (λ z. PairedMarks z q done) of.lies paired)
           (let e : 0 + length (acts done) ≡ length (acts done) = omega arith in e) (unset.long, unset.unset) in
           let of_copies = stays mr (λ k lk. (marks.paired.apart k lk).0) in
           let of_marks = stays q (λ k lk. (marks.paired.apart k lk).1) in

@@ -17,8 +17,8 @@ module _ {F : Type 0} where
   numbers p (Marks tuples r s ∷ xs) = numbers (p + 1) xs
   numbers p (Makes r s ∷ xs) = p ∷ numbers p xs
 
-  abbrev pub act_number : List (Traced F) → ℕ → ℕ
-  act_number done j = slice_index_or (numbers 0 done) j 0
+  abbrev pub act_number : ℕ → List (Traced F) → ℕ → ℕ
+  act_number p done j = slice_index_or (numbers p done) j 0
 
   not-less : (tr : List (Traced F)) (p l : ℕ) → l < length (acts tr) → p ≤ slice_index_or (numbers p tr) l 0
   not-less [] p l lt = absurd (omega (arith, lt))
@@ -77,20 +77,20 @@ module _ {F : Type 0} where
     do-append j (Makes r s ∷ xs) ys h g = let e : j + suc (length (acts xs)) ≡ suc j + length (acts xs) = omega arith in (h.0, do-append (suc j) xs ys h.1 (subst (λ x. Do x ys) e g))
 
 module _ {F : Type 0} (place : ℕ → ℕ) (is_row : ℕ → Bool) (layout : List Layout → List ℤ → Layout) (start : Storage) (n : ℕ) (act : ℕ → ℕ → Storage → Effect F) where
-  follow-from : (whole : List (Traced F)) (j p : ℕ) (xs : List (Traced F)) → DoAll place is_row layout start n act j xs
-      → ((l : ℕ) → slice_index_or (numbers 0 whole) (j + l) 0 ≡ slice_index_or (numbers p xs) l 0) → FollowActs place is_row layout start n act (act_number whole) j p xs
-  follow-from whole j p [] h g = tt
-  follow-from whole j p (Does t l s ∷ xs) h g =
+  follow-from : (q : ℕ) (whole : List (Traced F)) (j p : ℕ) (xs : List (Traced F)) → DoAll place is_row layout start n act j xs
+      → ((l : ℕ) → act_number q whole (j + l) ≡ act_number p xs l) → FollowActs place is_row layout start n act (act_number q whole) j p xs
+  follow-from q whole j p [] h g = tt
+  follow-from q whole j p (Does t l s ∷ xs) h g =
       let e : j + 0 ≡ j = omega arith in (
-        (h.0.0, h.0.1, subst (λ x. act_number whole x ≡ p) e (g 0)),
-        follow-from whole (suc j) (p + 1) xs h.1 (λ l. let z : suc j + l ≡ j + suc l = omega arith in ap (λ x. slice_index_or (numbers 0 whole) x 0) z ∙ g (suc l)),
+        (h.0.0, h.0.1, subst (λ x. act_number q whole x ≡ p) e (g 0)),
+        follow-from q whole (suc j) (p + 1) xs h.1 (λ l. let z : suc j + l ≡ j + suc l = omega arith in ap (act_number q whole) z ∙ g (suc l)),
       )
-  follow-from whole j p (Marks t q s ∷ xs) h g = (h.0, follow-from whole j (p + 1) xs h.1 g)
-  follow-from whole j p (Makes r s ∷ xs) h g =
-      (h.0, follow-from whole (suc j) p xs h.1 (λ l. let z : suc j + l ≡ j + suc l = omega arith in ap (λ x. slice_index_or (numbers 0 whole) x 0) z ∙ g (suc l)))
+  follow-from q whole j p (Marks t r s ∷ xs) h g = (h.0, follow-from q whole j (p + 1) xs h.1 g)
+  follow-from q whole j p (Makes r s ∷ xs) h g =
+      (h.0, follow-from q whole (suc j) p xs h.1 (λ l. let z : suc j + l ≡ j + suc l = omega arith in ap (act_number q whole) z ∙ g (suc l)))
 
-  pub follow-all : (whole : List (Traced F)) → DoAll place is_row layout start n act 0 whole → FollowActs place is_row layout start n act (act_number whole) 0 0 whole
-  follow-all whole h = follow-from whole 0 0 whole h (λ l. let z : 0 + l ≡ l = omega arith in ap (λ x. slice_index_or (numbers 0 whole) x 0) z)
+  pub follow-all : (p : ℕ) (whole : List (Traced F)) → DoAll place is_row layout start n act 0 whole → FollowActs place is_row layout start n act (act_number p whole) 0 p whole
+  follow-all p whole h = follow-from p whole 0 p whole h (λ l. let z : 0 + l ≡ l = omega arith in ap (act_number p whole) z)
 
   rise-from : (xs : List (Traced F)) (j p i a later : ℕ) (m : Storage) (f : F) → DoAll place is_row layout start n act j xs → act i (j + a) m ≡ Fail f → a < later → later < length (acts xs)
       → slice_index_or (numbers p xs) a 0 < slice_index_or (numbers p xs) later 0
@@ -110,5 +110,5 @@ module _ {F : Type 0} (place : ℕ → ℕ) (is_row : ℕ → Bool) (layout : Li
   rise-from (Makes r s ∷ xs) j p i (suc a) (suc later) m f h e lt l2 =
       rise-from xs (suc j) p i a later m f h.1 (let z : suc j + a ≡ j + suc a = omega arith in ap (λ x. act i x m) z ∙ e) (omega (arith, lt)) (omega (arith, l2))
 
-  pub rise-all : (whole : List (Traced F)) → DoAll place is_row layout start n act 0 whole → RiseAfterFaults act (act_number whole) (length (acts whole))
-  rise-all whole h i j later m f e lt l = rise-from whole 0 0 i j later m f h (let z : 0 + j ≡ j = omega arith in ap (λ x. act i x m) z ∙ e) lt l
+  pub rise-all : (p : ℕ) (whole : List (Traced F)) → DoAll place is_row layout start n act 0 whole → RiseAfterFaults act (act_number p whole) (length (acts whole))
+  rise-all p whole h i j later m f e lt l = rise-from whole 0 p i j later m f h (let z : 0 + j ≡ j = omega arith in ap (λ x. act i x m) z ∙ e) lt l

@@ -50,7 +50,7 @@ pub fn bodies_are_parted<A, C, F, P, Q>()
         → PlacedMean texts interpretation action_at condition_at place is_row is_index b s
         → PlacedTexts texts size layout stored row (count_body body) place is_row is_index start n b s
         → TakeSteps counting is_index body
-        → IsPlace place is_row → Placed place is_row start d.rows → d.kept ≡ None → d.parts ≡ 0
+        → IsPlace place is_row → Placed place is_row start d.rows → d.kept ≡ None
         → let act = nest_act interpretation row (λ i. items_at counting action_at condition_at i body b s) in
         let done = trace texts counting size stored body None 0 b s in
         let d' = all_traced layout done d in
@@ -79,7 +79,7 @@ pub fn nests_run<I, A, C, F, P, Q>()
         → PlacedMean texts interpretation action_at condition_at place is_row is_index b s
         → PlacedTexts texts size layout stored row (count_body body) place is_row is_index copies n b s
         → IsPlace place is_row → IsPlacedMemory layout s place is_row kinds n start (nest_entries finals stored (count_body body)) d
-        → d.kept ≡ None → d.parts ≡ 0
+        → d.kept ≡ None
         → AreApart finals → ((f : Final) → Contains finals f → final_slot f < b) → ((l : Layout) → alike l l ≡ true)
         → (NoneKept act copies n k
         × ((m : Storage) → PartedAgrees kinds row (kept act copies n) k n start m (parted act copies n k)

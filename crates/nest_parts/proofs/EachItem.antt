@@ -5,7 +5,7 @@ use Rattle.nest_order.specs.Items.{Items, Branches, EndIf, Branch, EachIn, EachI
 use Rattle.nest_syntax.specs.NestKinds.{Kind}
 use Rattle.nest_order.specs.Copies.{InIteration, in_iteration, condition_in, items_in, branches_in}
 use Rattle.array_meaning.specs.Terms.{Term}
-use Rattle.array_meaning.specs.Statements.{Block, Done, Then, Statement, AssignScalar, AssignElement, AssignSection, If, Do, Where, Forall, Print, Stop, Exit, Cycle, Continue, Redistribute, Arms, NoArm, Arm}
+use Rattle.array_meaning.specs.Statements.{Block, Done, Then, Statement, AssignScalar, AssignElement, AssignSection, Transform, If, Do, Where, Forall, Print, Stop, Exit, Cycle, Continue, Redistribute, Arms, NoArm, Arm}
 use Rattle.array_meaning.specs.State.{State, set_scalar}
 use Rattle.array_meaning.specs.declared.sections.Sequence.{Sequence}
 use Rattle.array_meaning.specs.Iterations.{values_of, turn_value}
@@ -36,6 +36,7 @@ module _ (kinds : ℕ → Kind) (I : State → Type 0) (keeps : (s : State) (x :
     statement_each (AssignScalar n t) line free s i h rest r = (actions free line s (ToScalar n t) i h, r)
     statement_each (AssignElement a ts t) line free s k h rest r = (actions free line s (ToElement a ts t) k h, r)
     statement_each (AssignSection a subs t) line free s k h rest r = absurd h
+    statement_each (Transform x y how) line free s k h rest r = absurd h
     statement_each (If arms other) line free s k h rest r = (arms_each arms other free s k h.0 (block_each other free s k h.1), r)
     statement_each (Do mark loop body) line free s k h rest r =
         (λ x lt. block_each body (without free loop.index) (set_scalar s loop.index (turn_value (values_of s loop) x)) (keeps s loop.index (values_of s loop) x k) (h.1 x lt), r)

@@ -11,7 +11,7 @@ use Rattle.nest_syntax.specs.NestKinds.{Kind, New, has_copies, is_read}
 use Rattle.nest_order.specs.Copies.{scalar_at}
 use Rattle.nest_order.specs.Scalars.{assigns_row, assigned_by, assigned_by_branches, AreAssigned, ReadsLate, ReadsLateBranches}
 use Rattle.array_meaning.specs.Terms.{Term, Number, Scalar, Index, Element, Section, Apply, Reduce, Terms, NoTerm, More}
-use Rattle.array_meaning.specs.Statements.{Block, Done, Then, Statement, AssignScalar, AssignElement, AssignSection, If, Do, Where, Forall, Print, Stop, Exit, Cycle, Continue, Redistribute, Arms, NoArm, Arm}
+use Rattle.array_meaning.specs.Statements.{Block, Done, Then, Statement, AssignScalar, AssignElement, AssignSection, Transform, If, Do, Where, Forall, Print, Stop, Exit, Cycle, Continue, Redistribute, Arms, NoArm, Arm}
 use Rattle.array_meaning.specs.Faults.{Cause, ◌>>=◌}
 use Rattle.array_meaning.specs.State.{State, set_scalar, place_in}
 use Rattle.array_meaning.specs.Expressions.{values}
@@ -99,6 +99,7 @@ module _ (kinds : ℕ → Kind) (assigned_names : List ℕ) where
     rows_after_statement (AssignElement a ts t) line free s f g h below rest goal go =
         go (λ row. g row || list_all (λ spot. nat_eq spot.row row) (element_spot a (values [] s ts >>= place_in s a))) (element_row a (values [] s ts >>= place_in s a) f g below)
     rows_after_statement (AssignSection a subs t) line free s f g h below rest goal go = absurd h
+    rows_after_statement (Transform x y how) line free s f g h below rest goal go = absurd h
     rows_after_statement (If arms other) line free s f g h below rest goal go = go (branch_rows (branches_of s arms (items_of s other)) g) (rows_by_arms arms other free s f g h.0 h.1 below (rows_after other free s f g h.1 below))
     rows_after_statement (Do mark loop body) line free s f g h below rest goal go =
         let p = values_of s loop in
@@ -174,6 +175,7 @@ module _ (kinds : ℕ → Kind) (assigned_names : List ℕ) where
       go (λ row. g row || list_all (λ spot. nat_eq spot.row row) (element_spot a (values [] s ts >>= place_in s a))) (element_row a (values [] s ts >>= place_in s a) f g below),
     )
     statement_late (AssignSection a subs t) line free s f g h p below rest go = absurd h
+    statement_late (Transform x y how) line free s f g h p below rest go = absurd h
     statement_late (If arms other) line free s f g h p below rest go = (
       arms_late arms other free s f g h.0 h.1 p.0 below (block_late other free s f g h.1 p.1 below),
       go (branch_rows (branches_of s arms (items_of s other)) g) (rows_by_arms arms other free s f g h.0 h.1 below (rows_after other free s f g h.1 below)),

@@ -12,7 +12,7 @@ use Rattle.nest_order.specs.Listed.{Names, names_in, known_in, listed, listed_br
 use Rattle.nest_syntax.specs.NestKinds.{Kind, Shared, New, Assigned, Reduced, has_copies, is_read}
 use Rattle.nest_order.specs.Copies.{scalar_at, InIteration, in_iteration, condition_in, items_in, branches_in}
 use Rattle.array_meaning.specs.Terms.{Term, Number, Scalar, Index, Element, Section, Apply, Reduce, Terms, NoTerm, More}
-use Rattle.array_meaning.specs.Statements.{Block, Done, Then, Statement, AssignScalar, AssignElement, AssignSection, If, Do, Where, Forall, Print, Stop, Exit, Cycle, Continue, Redistribute, Arms, NoArm, Arm}
+use Rattle.array_meaning.specs.Statements.{Block, Done, Then, Statement, AssignScalar, AssignElement, AssignSection, Transform, If, Do, Where, Forall, Print, Stop, Exit, Cycle, Continue, Redistribute, Arms, NoArm, Arm}
 use Rattle.array_meaning.specs.Faults.{Cause, ◌>>=◌}
 use Rattle.array_meaning.specs.State.{State, set_scalar, place_in}
 use Rattle.array_meaning.specs.Expressions.{values}
@@ -213,6 +213,7 @@ module _ (kinds : ℕ → Kind) (assigned : List ℕ) where
           (λ r. inr r)
           (Contains-append_cases ((if w then [] else spots_in kinds s t) ++ element_spot a p) (listed (names_of kinds assigned w) rest) spot c)
       statement_touched (AssignSection a subs t) line free hidden s h seen rest c = absurd h
+      statement_touched (Transform x y how) line free hidden s h seen rest c = absurd h
       statement_touched (If arms other) line free hidden s h seen rest c = ⊎_elim
           (λ l. inl (arms_touched arms other free hidden s h.0 h.1 seen (block_touched other free hidden s h.1 seen) l))
           (λ r. inr r)

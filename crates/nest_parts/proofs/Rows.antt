@@ -8,7 +8,7 @@ use Rattle.nest_order.specs.Listed.{counted, listed, listed_branches}
 use Rattle.nest_syntax.specs.NestKinds.{Kind, is_read}
 use Rattle.nest_order.specs.Copies.{scalar_at}
 use Rattle.array_meaning.specs.Terms.{Term, Number, Scalar, Index, Element, Section, Apply, Reduce, Terms, NoTerm, More}
-use Rattle.array_meaning.specs.Statements.{Block, Done, Then, Statement, AssignScalar, AssignElement, AssignSection, If, Do, Where, Forall, Print, Stop, Exit, Cycle, Continue, Redistribute, Arms, NoArm, Arm}
+use Rattle.array_meaning.specs.Statements.{Block, Done, Then, Statement, AssignScalar, AssignElement, AssignSection, Transform, If, Do, Where, Forall, Print, Stop, Exit, Cycle, Continue, Redistribute, Arms, NoArm, Arm}
 use Rattle.array_meaning.specs.Faults.{Cause, ◌>>=◌}
 use Rattle.array_meaning.specs.State.{State, set_scalar, place_in}
 use Rattle.array_meaning.specs.Expressions.{values}
@@ -80,6 +80,7 @@ module _ (kinds : ℕ → Kind) (assigned : List ℕ) (n : ℕ) (spot : Spot) wh
         (λ x d. block_below body (set_scalar s loop.index (turn_value p x)) h d) l)
         go (Contains-append_cases (joined_up_to p.count (λ x. listed (names_of kinds assigned false) (items_of (set_scalar s loop.index (turn_value p x)) body))) (listed (names_of kinds assigned false) rest) spot c)
     statement_below (AssignSection a subs t) line s h rest go c = go c
+    statement_below (Transform x y how) line s h rest go c = go c
     statement_below (Where mask body others) line s h rest go c = go c
     statement_below (Forall controls mask body) line s h rest go c = go c
     statement_below (Print xs) line s h rest go c = go c

@@ -25,7 +25,7 @@ use Rattle.op_tables.specs.declared.join.Join.{Join}
 use Rattle.nest_syntax.specs.NestKinds.{Kind, is_difference}
 use Rattle.array_meaning.specs.Terms.{Term, Number, Scalar, Element, Section, Apply, Reduce, Terms, NoTerm, More}
 use Rattle.array_meaning.specs.Terms as term
-use Rattle.array_meaning.specs.Resolution.{place_of, alone, assignment, called, left_of, term_of, terms_of, resolved, resolved_block, resolved_arms, resolved_otherwise}
+use Rattle.array_meaning.specs.Resolution.{place_of, alone, assignment, called, left_of, term_of, terms_of, transformation_of, resolved, resolved_block, resolved_arms, resolved_otherwise}
 use Rattle.fitting_states.specs.FittingStates.{TermFits, TermsFit}
 use Rattle.name_table.proofs.Tests.{all_split, both}
 use Rattle.well_formed.proofs.Lists.{pass_split}
@@ -33,6 +33,7 @@ use Rattle.nest_items.specs.Standing.{Stands, IsReductionStatement, has_no_loop,
 use Rattle.nest_standing.specs.Named.{Names, is_array_in}
 use Rattle.nest_standing.proofs.Ruled.{IsReached, Tied, IsFree}
 use Rattle.nest_standing.proofs.Exprs.{not_true, or_case, stands}
+use Rattle.nest_standing.proofs.Assignments.{either_statement}
 
 pub not_both : {A : Type 0} (b : Bool) → b ≡ true → b ≡ false → A
 not_both b t f = absurd (true≢false (sym t ∙ f))
@@ -62,7 +63,9 @@ module _ (n : NestNames) where
         two (is_no_loop (resolved n.declared s)) (has_no_loop (resolved_block n.declared b)) (no_loop zs line s parts.0) (no_loops (assigned_by zs s) b parts.1)
 
     no_loop : (zs : List Name) (line : ℕ) (s : syntax.Statement) → AllByRecursion (IsReached n) (reached_in true zs line s) → is_no_loop (resolved n.declared s) ≡ true
-    no_loop zs line (syntax.Assign left right) h = assigns_no_loop (left_of n.declared [] left) (term_of n.declared [] right)
+    no_loop zs line (syntax.Assign left right) h =
+        either_statement (λ st. is_no_loop st ≡ true) n.declared (λ x y how. refl) (syntax.designator left) (transformation_of n.declared right)
+        (assignment (left_of n.declared [] left) (term_of n.declared [] right)) (assigns_no_loop (left_of n.declared [] left) (term_of n.declared [] right))
     no_loop zs line (syntax.If arms rest) h =
         let parts = all_split (IsReached n) (reached_in_arms zs arms) (reached_in_rest zs rest) h in
         two (have_no_loop (resolved_arms n.declared arms)) (has_no_loop (resolved_otherwise n.declared rest)) (no_arm_loop zs arms parts.0) (no_else_loop zs rest parts.1)

@@ -1,10 +1,10 @@
 -- A constant expression over the declared constants has its value in the resolved program too.
 use Rattle.std.proofs.Common.{◌≡◌, Bool, true, false, true≢false, List, [], ◌∷◌, length, map, cond, bytes_eq, Option, Some, None, refl, sym, ap, ap₂, ◌∙◌, subst, ℤ, pos, ◌⊎◌, inl, inr, ⊎_elim}
-use Rattle.std.specs.Prelude.{not, option_and_then, unwrap_or, if◌then◌else◌}
+use Rattle.std.specs.Prelude.{◌||◌, not, option_and_then, unwrap_or, if◌then◌else◌}
 use Rattle.std.proofs.lemmas.Option.{same_Some}
 use Rattle.std.proofs.lemmas.Slice.Eq.{bytes_eq-Decides}
 use Rattle.op_tables.specs.declared.op.Op.{Op}
-use Rattle.op_tables.specs.Arguments.{takes, is_reduction, is_inquiry, is_processor_count}
+use Rattle.op_tables.specs.Arguments.{takes, is_reduction, is_transformation, is_inquiry, is_processor_count}
 use Rattle.op_tables.specs.Operators.{operator_value, is_zero, truth}
 use Rattle.syntax_tree.specs.Expression as e
 use Rattle.syntax_tree.specs.Expression.{Expression, Parts}
@@ -189,18 +189,19 @@ module _ (t : SymbolTable) (once : NoRepeat t) where
   called_closed : (o : Op) (ps : Parts) (v : ℤ) → ((ns : List ℤ) → values None table ps ≡ Known ns → closed_values (terms_of names [] ps) ≡ Some ns)
       → (of_array None o (named_first table ps) (values_after None table ps) ≡ Known v → closed_value (inquiry o (dims_of (first_named names ps)) (terms_of names [] ps)) ≡ Some v)
       → value None table (e.Call o ps) ≡ Known v → closed_value (term_of names [] (e.Call o ps)) ≡ Some v
-  called_closed o ps v all inquired h = by (is_inquiry o) (is_processor_count o) (is_reduction o) h
+  called_closed o ps v all inquired h = by (is_inquiry o) (is_processor_count o) (is_reduction o) (is_transformation o) h
     where
-      by : (i p r : Bool) → (if i then of_array None o (named_first table ps) (values_after None table ps)
-          else (if p then processor_count None (values None table ps) else (if r then Invalid else elemental_value o (values None table ps)))) ≡ Known v
+      by : (i p r m : Bool) → (if i then of_array None o (named_first table ps) (values_after None table ps)
+          else (if p then processor_count None (values None table ps) else (if r || m then Invalid else elemental_value o (values None table ps)))) ≡ Known v
           → closed_value (if i then inquiry o (dims_of (first_named names ps)) (terms_of names [] ps)
           else (if r then Reduce o (first_term (terms_of names [] ps)) else Apply o (terms_of names [] ps))) ≡ Some v
-      by true p r g = inquired g
-      by false true r g = absurd cc
-      by false false true g = absurd cc
-      by false false false g =
-          let m = elemental_known o (values None table ps) v g in
-          ap (option_and_then (operator_value o)) (all m.0 m.1) ∙ m.2
+      by true p r m g = inquired g
+      by false true r m g = absurd cc
+      by false false true m g = absurd cc
+      by false false false true g = absurd cc
+      by false false false false g =
+          let s = elemental_known o (values None table ps) v g in
+          ap (option_and_then (operator_value o)) (all s.0 s.1) ∙ s.2
 
   mutual
     value_closed : (x : Expression) (v : ℤ) → value None table x ≡ Known v → closed_value (term_of names [] x) ≡ Some v

@@ -38,6 +38,7 @@ use Rattle.nest_standing.specs.Named.{Declared, AreDeclared, IsScalar, IsNamed}
 use Rattle.nest_standing.proofs.Ruled.{IsKept, IsGathered}
 use Rattle.nest_standing.proofs.PlacesOf.{among_is}
 use Rattle.nest_standing.proofs.Exprs.{or_case, or_left, or_right}
+use Rattle.nest_standing.proofs.Assignments.{plain_assignment}
 use Rattle.nest_standing.proofs.Bodies.{not_both, or_true, if_some_is}
 use Rattle.nest_standing.proofs.Ties.{among_all, operator_at_over, operators_of_nest, Meets}
 use Rattle.nest_standing.proofs.Operators.{operators_hold, has_all}
@@ -142,7 +143,9 @@ module _ (n : NestNames) where
 
     statement_gives : (xs ys : List Name) → Within xs ys → (line : ℕ) (s : syntax.Statement) → AllByRecursion (IsNamed n.declared) (statement_heads ys line s)
         → AllByRecursion (IsKept n) (statement_heads xs line s) → Gives (heads_in s) (assigned_by (resolved n.declared s))
-    statement_gives xs ys within line (syntax.Assign left right) named kept = assign_gives xs ys within left.name left.subscripts line right named.0 kept.0
+    statement_gives xs ys within line (syntax.Assign left right) named kept =
+        subst (λ st. Gives (head.Assignment left right ∷ []) (assigned_by st)) (sym (plain_assignment n xs line left right kept.0))
+        (assign_gives xs ys within left.name left.subscripts line right named.0 kept.0)
     statement_gives xs ys within line (syntax.If arms rest) named kept =
         let m = all_split (IsNamed n.declared) (arm_heads ys arms) (else_heads ys rest) named in
         let k = all_split (IsKept n) (arm_heads xs arms) (else_heads xs rest) kept in

@@ -42,6 +42,7 @@ use Rattle.nest_standing.specs.Named.{Declared, Names, names_arrays, IsNamed}
 use Rattle.nest_standing.proofs.Ruled.{IsKept, IsReached, IsGathered, Tied, IsFree}
 use Rattle.nest_standing.proofs.PlacesOf.{place_eq}
 use Rattle.nest_standing.proofs.Exprs.{not_true, either_from, bound_names, exact_bound, fixed_parts}
+use Rattle.nest_standing.proofs.Assignments.{plain_assignment}
 use Rattle.nest_standing.proofs.Bodies.{not_both, two, no_arm_loop, no_else_loop, Right, right_stands, reduction_is}
 
 reduced_same : (a b : Join) → Reduced a ≡ Reduced b → a ≡ b
@@ -319,7 +320,8 @@ module _ (n : NestNames) (kinds : ℕ → Kind) (tied : Tied n kinds)
         → AllByRecursion (IsNamed n.declared) (statement_heads ys line s) → AllByRecursion (IsKept n) (statement_heads xs line s) → AllByRecursion (IsReached n) (reached_in c zs line s)
         → AllByRecursion (IsGathered n) (heads_in s) → StatementFits (resolved n.declared s) → StatementKeeps kinds free (resolved n.declared s)
     statement_keeps xs ys free c zs is_free round line (syntax.Assign left right) named kept reach gathered fit =
-        assign_keeps xs ys free is_free left.name left.subscripts line right named.0 kept.0 gathered.0 fit
+        let same = plain_assignment n xs line left right kept.0 in
+        subst (StatementKeeps kinds free) (sym same) (assign_keeps xs ys free is_free left.name left.subscripts line right named.0 kept.0 gathered.0 (subst StatementFits same fit))
     statement_keeps xs ys free c zs is_free round line (syntax.If arms rest) named kept reach gathered fit =
         let m = all_split (IsNamed n.declared) (arm_heads ys arms) (else_heads ys rest) named in
         let k = all_split (IsKept n) (arm_heads xs arms) (else_heads xs rest) kept in

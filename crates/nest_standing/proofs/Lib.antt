@@ -1,6 +1,7 @@
 mod Ruled
 mod PlacesOf
 mod Exprs
+mod Assignments
 mod Bodies
 mod Kept
 mod Texts

@@ -17,7 +17,7 @@ use Rattle.nest_check.specs.Paths.{reached_heads}
 use Rattle.nest_syntax.specs.NestKinds.{Kind, has_copies}
 use Rattle.array_meaning.specs.Terms.{Term, Number, Scalar, Index, Element, Section, Apply, Reduce}
 use Rattle.array_meaning.specs.Statements.{Loop, Nest, Block, Then}
-use Rattle.array_meaning.specs.Resolution.{control_of, place_of, assignment, left_of, term_of, loop_of, with_inner_unmarked, resolved_block}
+use Rattle.array_meaning.specs.Resolution.{control_of, place_of, assignment, transformation_of, left_of, term_of, loop_of, with_inner_unmarked, resolved_block}
 use Rattle.fitting_states.specs.FittingStates.{ControlFits, BlockFits}
 use Rattle.name_table.proofs.Tests.{all_split}
 use Rattle.nest_items.specs.Settled.{without}
@@ -26,6 +26,7 @@ use Rattle.nest_items.specs.NestForm.{IsStep, BlockKeeps, LoopsKeep, IsNest}
 use Rattle.nest_standing.specs.Named.{Declared, IsNamed}
 use Rattle.nest_standing.proofs.Ruled.{IsKept, IsReached, IsGathered, Tied}
 use Rattle.nest_standing.proofs.PlacesOf.{place_eq}
+use Rattle.nest_standing.proofs.Assignments.{either_statement}
 use Rattle.nest_standing.proofs.Kept.{loop_keeps, block_keeps, placed_names}
 use Rattle.nest_standing.proofs.PathsOf.{paths_assign}
 
@@ -117,7 +118,11 @@ module _ (n : NestNames) (kinds : ℕ → Kind) (tied : Tied n kinds) (step_is :
   loops_keep done ys free up (syntax.Then line (syntax.Do None axis b) (syntax.Then k s rest)) named inner inside = (refl, inside done ys free up (ends done) named)
   loops_keep done ys free up syntax.Done named inner inside = (refl, inside done ys free up (ends done) named)
   loops_keep done ys free up (syntax.Then line (syntax.Assign left right) rest) named inner inside =
-      (unmarked_assign line (left_of n.declared [] left) (term_of n.declared [] right) (resolved_block n.declared rest), inside done ys free up (ends done) named)
+      let after : Block = resolved_block n.declared rest in (
+        either_statement (λ st. with_inner_unmarked (Then line st after) ≡ Then line st after) n.declared (λ x y how. refl) (syntax.designator left) (transformation_of n.declared right)
+            (assignment (left_of n.declared [] left) (term_of n.declared [] right)) (unmarked_assign line (left_of n.declared [] left) (term_of n.declared [] right) after),
+        inside done ys free up (ends done) named,
+      )
   loops_keep done ys free up (syntax.Then line (syntax.If arms other) rest) named inner inside = (refl, inside done ys free up (ends done) named)
   loops_keep done ys free up (syntax.Then line (syntax.Where mask body others) rest) named inner inside = (refl, inside done ys free up (ends done) named)
   loops_keep done ys free up (syntax.Then line (syntax.Forall axes mask body) rest) named inner inside = (refl, inside done ys free up (ends done) named)

@@ -9,9 +9,10 @@ use Rattle.statement_walk.specs.Nests.{nest_in}
 use Rattle.name_table.specs.declared.names.Entry.{Entry}
 use Rattle.array_meaning.specs.Terms.{Term, Number, Scalar, Index, Element, Section, Apply, Reduce}
 use Rattle.array_meaning.specs.Statements.{Nest, Block, Then, Mark, Unmarked, Outermost}
-use Rattle.array_meaning.specs.Resolution.{place_of, assignment, left_of, term_of, loop_of, nest_of, union, outermost, inner_mark, resolved_block}
+use Rattle.array_meaning.specs.Resolution.{place_of, assignment, transformation_of, left_of, term_of, loop_of, nest_of, union, outermost, inner_mark, resolved_block}
 use Rattle.array_meaning.specs.Iterations.{is_in}
 use Rattle.nest_standing.proofs.Ties.{union_in}
+use Rattle.nest_standing.proofs.Assignments.{either_statement}
 
 or_nothing : (b : Bool) → b ≡ (b || false)
 or_nothing true = refl
@@ -68,7 +69,9 @@ module _ (names : List Entry) where
   marked m axis (syntax.Then line (syntax.Do None axis' b) (syntax.Then k s rest)) = alone m axis _ refl refl refl
   marked m axis syntax.Done = alone m axis _ refl refl refl
   marked m axis (syntax.Then line (syntax.Assign left right) rest) =
-      alone m axis (syntax.Then line (syntax.Assign left right) rest) (unmarked_assign line (left_of names [] left) (term_of names [] right) (resolved_block names rest)) refl refl
+      alone m axis (syntax.Then line (syntax.Assign left right) rest)
+      (either_statement (λ st. inner_mark (Then line st (resolved_block names rest)) ≡ Unmarked) names (λ x y how. refl) (syntax.designator left) (transformation_of names right)
+      (assignment (left_of names [] left) (term_of names [] right)) (unmarked_assign line (left_of names [] left) (term_of names [] right) (resolved_block names rest))) refl refl
   marked m axis (syntax.Then line (syntax.If arms other) rest) = alone m axis _ refl refl refl
   marked m axis (syntax.Then line (syntax.Where mask body others) rest) = alone m axis _ refl refl refl
   marked m axis (syntax.Then line (syntax.Forall axes mask body) rest) = alone m axis _ refl refl refl

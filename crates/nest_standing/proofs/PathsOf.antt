@@ -6,7 +6,6 @@ use Rattle.std.proofs.lemmas.List.Folds.{list_any-append}
 use Rattle.std.proofs.lemmas.Slice.Eq.{bytes_eq-Decides}
 use Rattle.syntax_tree.specs.Expression.{Expression, Parts}
 use Rattle.syntax_tree.specs.Statement as syntax
-use Rattle.syntax_tree.specs.Statement.{designator}
 use Rattle.expression_rules.specs.Symbols.{Name, is_among}
 use Rattle.statement_walk.specs.Head as head
 use Rattle.statement_walk.specs.Heads.{heads, statement_heads, arm_heads, else_heads, placed}
@@ -14,8 +13,8 @@ use Rattle.name_table.specs.Entries.{declared_as}
 use Rattle.name_table.specs.declared.names.What.{What}
 use Rattle.name_table.specs.declared.names.What.TheVariants as what
 use Rattle.body_forms.specs.Names.{is_scalar}
-use Rattle.nest_check.specs.NestNames.{NestNames, added, all_added, reduction_operator, alone as alone_names}
-use Rattle.nest_check.specs.NestRules.{is_unassigned, may_be_read, subexpressions_after, is_readable, is_allowed_in_nest, is_assignable, has_one_operator, own_variable}
+use Rattle.nest_check.specs.NestNames.{NestNames, added, all_added, alone as alone_names}
+use Rattle.nest_check.specs.NestRules.{is_unassigned, may_be_read, subexpressions_after, is_readable, is_assignable}
 use Rattle.nest_check.specs.Paths as by_name
 use Rattle.nest_check.specs.Paths.{common, reached_heads, reached_in, reached_in_arms, reached_in_rest}
 use Rattle.nest_syntax.specs.NestKinds.{Kind, New, has_copies}
@@ -30,6 +29,7 @@ use Rattle.nest_standing.proofs.Ruled.{IsKept, IsReached, Tied}
 use Rattle.nest_standing.proofs.PlacesOf.{place_eq}
 use Rattle.nest_standing.proofs.Bodies.{two, or_true}
 use Rattle.nest_standing.proofs.Exprs.{or_case, or_left, or_right, readable}
+use Rattle.nest_standing.proofs.Assignments.{assignable, plain_assignment}
 
 common_both : (x : Name) (xs ys : List Name) → is_among x (common xs ys) ≡ true → (is_among x xs ≡ true) × (is_among x ys ≡ true)
 common_both x [] ys h = absurd (true≢false (sym h))
@@ -101,15 +101,6 @@ module _ (n : NestNames) (kinds : ℕ → Kind) (tied : Tied n kinds) where
       either (λ l. Grown zs (assigned_after_statement before (assignment l t))) (is_element ps) (Element (place_of n.declared x) (terms_of n.declared [] ps))
       (Section (place_of n.declared x) (section_subscripts n.declared [] (dims_of (declared_as n.declared x)) ps)) (λ i. g) (λ i. g)
 
-  assignable : (xs : List Name) (x : Name) (subs : Option Parts) (line : ℕ) (right : Expression)
-      → IsKept n (placed xs line (head.Assignment (record { name = x; subscripts = subs }) right)) → is_assignable n x subs ≡ true
-  assignable xs x subs line right kept =
-      let left : syntax.Variable = record { name = x; subscripts = subs } in
-      let own : Option Name = own_variable x (reduction_operator n.reduction_names left right) in
-      let pair : Bool = is_allowed_in_nest n xs own (designator left) && is_allowed_in_nest n xs own right in
-      (both (is_assignable n x subs) pair
-      (both (is_assignable n x subs && pair) (has_one_operator n x (reduction_operator n.reduction_names left right)) kept.rules).0).0
-
   left_declared : (ys : List Name) (x : Name) (subs : Option Parts) (line : ℕ) (right : Expression)
       → IsNamed n.declared (placed ys line (head.Assignment (record { name = x; subscripts = subs }) right)) → Declared n.declared x
   left_declared ys x None line right named = named.expressions.0.0
@@ -127,8 +118,9 @@ module _ (n : NestNames) (kinds : ℕ → Kind) (tied : Tied n kinds) where
     grown_statement : (xs ys zs : List Name) (before : ℕ → Bool) → Grown zs before → (line : ℕ) (s : syntax.Statement) → AllByRecursion (IsNamed n.declared) (statement_heads ys line s)
         → AllByRecursion (IsKept n) (statement_heads xs line s) → Grown (by_name.assigned_by zs s) (assigned_after_statement before (resolved n.declared s))
     grown_statement xs ys zs before g line (syntax.Assign left right) named kept =
-        grown_assign zs before left.name left.subscripts (term_of n.declared [] right) g (assignable xs left.name left.subscripts line right kept.0)
-        (left_declared ys left.name left.subscripts line right named.0)
+        subst (λ st. Grown (by_name.assigned_by zs (syntax.Assign left right)) (assigned_after_statement before st)) (sym (plain_assignment n xs line left right kept.0))
+        (grown_assign zs before left.name left.subscripts (term_of n.declared [] right) g (assignable n xs left.name left.subscripts line right kept.0)
+        (left_declared ys left.name left.subscripts line right named.0))
     grown_statement xs ys zs before g line (syntax.If arms rest) named kept =
         let m = all_split (IsNamed n.declared) (arm_heads ys arms) (else_heads ys rest) named in
         let k = all_split (IsKept n) (arm_heads xs arms) (else_heads xs rest) kept in
@@ -177,9 +169,10 @@ module _ (n : NestNames) (kinds : ℕ → Kind) (tied : Tied n kinds) where
     path_assigns : (xs ys zs : List Name) (c : Bool) (before : ℕ → Bool) → Grown zs before → (line : ℕ) (s : syntax.Statement) → AllByRecursion (IsNamed n.declared) (statement_heads ys line s)
         → AllByRecursion (IsKept n) (statement_heads xs line s) → AllByRecursion (IsReached n) (reached_in c zs line s) → PathAssigns kinds before (resolved n.declared s)
     path_assigns xs ys zs c before g line (syntax.Assign left right) named kept reach =
-        assigns_readable kinds before (left_of n.declared [] left) (term_of n.declared [] right)
+        subst (PathAssigns kinds before) (sym (plain_assignment n xs line left right kept.0))
+        (assigns_readable kinds before (left_of n.declared [] left) (term_of n.declared [] right)
         (readable n kinds tied zs before (known_assigned zs before g) right named.0.expressions.1.0
-        (both (list_all (may_be_read n zs) (subexpressions_after left.subscripts)) (is_readable n zs right) reach.0).1)
+        (both (list_all (may_be_read n zs) (subexpressions_after left.subscripts)) (is_readable n zs right) reach.0).1))
     path_assigns xs ys zs c before g line (syntax.If arms rest) named kept reach =
         let m = all_split (IsNamed n.declared) (arm_heads ys arms) (else_heads ys rest) named in
         let k = all_split (IsKept n) (arm_heads xs arms) (else_heads xs rest) kept in

@@ -12,8 +12,8 @@ use Rattle.declarations.specs.Declarations.{symbol_table}
 use Rattle.name_table.specs.Entries.{entry, entries}
 use Rattle.name_table.specs.declared.names.Entry.{Entry}
 use Rattle.name_table.specs.NameRules as name_rules
-use Rattle.name_table.specs.NameRules.{expressions_of, name_breaches, name_breaches_at}
-use Rattle.name_table.specs.Places.{context_of}
+use Rattle.name_table.specs.NameRules.{name_breaches, name_breaches_at}
+use Rattle.name_table.specs.Places.{context_of, places}
 use Rattle.name_table.specs.RankRules.{declaration_breaches_at, rank_breaches, rank_breaches_at}
 use Rattle.name_table.specs.Resolved.{HasNoBreach}
 use Rattle.nest_check.specs.NestRules.{nest_breaches}
@@ -21,7 +21,7 @@ use Rattle.body_check.specs.BodyRules.{body_breaches}
 use Rattle.body_check.specs.ForallRules.{forall_breaches_at}
 use Rattle.array_meaning.specs.Terms.{Term, Scalar, Element, Section}
 use Rattle.array_meaning.specs.Statements.{Loop}
-use Rattle.array_meaning.specs.Resolution.{control_of, assignment, left_of, loop_of, term_of, resolved, resolved_block, resolved_arms, resolved_otherwise}
+use Rattle.array_meaning.specs.Resolution.{control_of, assignment, transformation_of, left_of, loop_of, term_of, resolved, resolved_block, resolved_arms, resolved_otherwise}
 use Rattle.fitting_states.specs.FittingStates.{ControlFits, BlockFits, StatementFits, MarkFits, ArmsFit}
 use Rattle.name_table.proofs.Tests.{all_empty, all_split, empties, no_breach}
 use Rattle.well_formed.proofs.RankedStatements.{IsTypedHead, all_typed_heads}
@@ -29,10 +29,11 @@ use Rattle.nest_items.specs.BlockForms.{HasForms, BlockHasForms, ArmsHaveForms}
 use Rattle.nest_standing.specs.Named.{IsNamed}
 use Rattle.nest_standing.specs.KeptNests.{StepsAre, FitsNest}
 use Rattle.nest_standing.proofs.Accepted.{named}
+use Rattle.nest_standing.proofs.Assignments.{either_statement}
 use Rattle.nest_standing.proofs.ConstantSteps.{steps_are}
 use Rattle.nest_standing.proofs.DistinctNames.{table_once}
 use Rattle.nest_standing.proofs.Marked.{marked}
-use Rattle.nest_standing.proofs.Ranks.{all_arrays}
+use Rattle.nest_standing.proofs.Ranks.{placed_arrays}
 use Rattle.nest_standing.proofs.Whole.{kept_nest}
 
 -- the statements of a program keep the rules of names and types
@@ -40,7 +41,7 @@ all_named : (t : SymbolTable) (hs : List PlacedHead) → AllByRecursion (λ h. n
     → AllByRecursion (IsNamed (map entry t)) hs
 all_named t [] names typed = tt
 all_named t (h ∷ hs) names typed =
-    (named t h names.0 (all_arrays (context_of h.what) t (expressions_of h.what) typed.0.expressions), all_named t hs names.1 typed.1)
+    (named t h names.0 (placed_arrays (context_of h.what) t (places h.what) typed.0.expressions), all_named t hs names.1 typed.1)
 
 module _ (es : List Entry) where
   -- a nest breaks none of the rules of nests, and has no loop too many
@@ -81,7 +82,9 @@ module _ (es : List Entry) (steps : StepsAre es) where
 
     statement_forms : (ys : List Name) (line : ℕ) (s : syntax.Statement) → AllByRecursion (IsNamed es) (statement_heads ys line s)
         → AllByRecursion (IsRuled es) (statement_nests line s) → StatementFits (resolved es s) → HasForms (resolved es s)
-    statement_forms ys line (syntax.Assign left right) named none fit = assigned_forms (left_of es [] left) (term_of es [] right)
+    statement_forms ys line (syntax.Assign left right) named none fit =
+        either_statement HasForms es (λ x y how. tt) (syntax.designator left) (transformation_of es right)
+        (assignment (left_of es [] left) (term_of es [] right)) (assigned_forms (left_of es [] left) (term_of es [] right))
     statement_forms ys line (syntax.If arms rest) named none fit =
         let m = all_split (IsNamed es) (arm_heads ys arms) (else_heads ys rest) named in
         let n = all_split (IsRuled es) (arm_nests arms) (else_nests rest) none in

@@ -1,7 +1,7 @@
 -- What has subscripts in an expression with a type and a rank is no scalar.
-use Rattle.std.proofs.Common.{◌≡◌, ℕ, zero, suc, Bool, true, false, true≢false, List, [], ◌∷◌, ◌++◌, map, Option, Some, None, refl, sym, ap, ◌∙◌, arith}
+use Rattle.std.proofs.Common.{◌≡◌, ℕ, zero, suc, ◌≤◌, Bool, true, false, true≢false, List, [], ◌∷◌, ◌++◌, map, Option, Some, None, refl, sym, ap, subst, ◌∙◌, inl, inr, arith}
 use Rattle.std.specs.Prelude.{◌&&◌, ◌||◌, not, is_some, nat_eq, if◌then◌else◌}
-use Rattle.std.specs.List.{AllByRecursion, list_all}
+use Rattle.std.specs.List.{list_all}
 use Rattle.std.proofs.lemmas.List.Folds.{list_all-append}
 use Rattle.op_tables.specs.declared.op.Op.{Op}
 use Rattle.op_tables.specs.Arguments.{takes, is_reduction, is_inquiry, is_processor_count}
@@ -16,9 +16,12 @@ use Rattle.expression_rules.specs.Symbols.{Name, SymbolTable, find, rank_of}
 use Rattle.expression_rules.specs.Types.{is_integer_scalar, if_typed, common, rank_in, conforming, of_type, elemental, operand_type, result_type, reduction_of, reduction, integer_scalar_if, is_of_array, inquired_from, are_inquired, are_integer_scalars, is_directive, count_of, triplets, called_type, subscripted, integer, type_and_rank, types_and_ranks, are_subscripts, is_subscript, is_triplet_part}
 use Rattle.name_table.specs.Entries.{entry, declared_as, what_is}
 use Rattle.name_table.specs.declared.names.Entry.{Entry}
+use Rattle.name_table.specs.Places.{AssignedTo, Place, Requirement, whole_rank}
 use Rattle.body_forms.specs.Names.{is_scalar}
 use Rattle.body_forms.specs.Subexpressions.{subexpressions, subexpressions_in_part, subexpressions_in_parts, subexpressions_in_maybe}
 use Rattle.well_formed.proofs.Dimensions.{declared_found}
+use Rattle.well_formed.proofs.Transformed.{IsMoved, Shifted, Transposed}
+use Rattle.well_formed.proofs.RankedStatements.{IsPlaced, ArePlaced}
 use Rattle.name_table.proofs.Tests.{both}
 use Rattle.nest_standing.specs.Named.{is_array_in, names_arrays}
 use Rattle.nest_standing.proofs.Bodies.{two}
@@ -160,6 +163,23 @@ module _ (context : Context) (t : SymbolTable) where
     maybe_arrays e.Absent h = refl
     maybe_arrays (e.Present a) h = typed_arrays a (typed_some is_integer_scalar (type_and_rank context t a) h)
 
-  pub all_arrays : (es : List Expression) → AllByRecursion (λ x. is_some (type_and_rank context t x) ≡ true) es → list_all (names_arrays names) es ≡ true
-  all_arrays [] h = refl
-  all_arrays (e ∷ es) h = two (names_arrays names e) (list_all (names_arrays names) es) (typed_arrays e h.0) (all_arrays es h.1)
+  -- a whole array by its name
+  whole_arrays : (x : Expression) → 1 ≤ whole_rank t x → Passes (subexpressions x)
+  whole_arrays (e.Name x) h = refl
+  whole_arrays x h = absurd (omega (arith, h))
+
+  moved_arrays : (left x : Expression) → IsMoved context t left x → Passes (subexpressions x)
+  moved_arrays left x (Shifted b k some same scalar) =
+      pass_both (subexpressions b) (subexpressions k ++ []) (whole_arrays b (subst (λ r. 1 ≤ r) (sym same) some))
+      (pass_both (subexpressions k) [] (typed_arrays k (typed_some is_integer_scalar (type_and_rank context t k) scalar)) refl)
+  moved_arrays left x (Transposed b two_left two_right) = pass_both (subexpressions b) [] (whole_arrays b (omega (arith, two_right))) refl
+
+  placed_array : (r : Requirement) (x : Expression) → IsPlaced context t r x → Passes (subexpressions x)
+  placed_array (AssignedTo left) x (inl h) = typed_arrays x h
+  placed_array (AssignedTo left) x (inr h) = moved_arrays left x h
+  placed_array r x h = typed_arrays x h
+
+  pub placed_arrays : (ps : List Place) → ArePlaced context t ps → list_all (names_arrays names) (map (λ p. p.expression) ps) ≡ true
+  placed_arrays [] h = refl
+  placed_arrays (p ∷ ps) h =
+      two (names_arrays names p.expression) (list_all (names_arrays names) (map (λ p. p.expression) ps)) (placed_array p.requirement p.expression h.0) (placed_arrays ps h.1)

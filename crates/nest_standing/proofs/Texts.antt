@@ -1,5 +1,5 @@
 -- The texts of a nest that breaks no rule: its expressions have exact subscripts and no reduction, and the bounds in it name no index.
-use Rattle.std.proofs.Common.{◌≡◌, ℕ, Bool, true, false, true≢false, List, [], ◌∷◌, ◌++◌, Option, Some, None, sym}
+use Rattle.std.proofs.Common.{◌≡◌, ℕ, Bool, true, false, true≢false, List, [], ◌∷◌, ◌++◌, Option, Some, None, sym, subst}
 use Rattle.std.specs.Prelude.{◌&&◌}
 use Rattle.std.specs.List.{AllByRecursion, list_all}
 use Rattle.op_tables.specs.declared.join.Join.{Join}
@@ -29,6 +29,7 @@ use Rattle.nest_items.specs.NestForm.{IsPlain, NamesNone, TextsKeep, TextKeeps, 
 use Rattle.nest_standing.specs.Named.{Declared, Names, IsNamed}
 use Rattle.nest_standing.proofs.Ruled.{IsKept}
 use Rattle.nest_standing.proofs.Exprs.{either_from, bound_names, exact_parts, plain}
+use Rattle.nest_standing.proofs.Assignments.{plain_assignment}
 
 -- each index is a scalar, and `all` are indices alone
 module _ (n : NestNames) (scalars : (x : Name) → is_among x n.indices ≡ true → is_scalar (declared_as n.declared x) ≡ true)
@@ -94,7 +95,9 @@ module _ (n : NestNames) (scalars : (x : Name) → is_among x n.indices ≡ true
 
     text_keeps : (xs ys : List Name) (line : ℕ) (s : syntax.Statement) → AllByRecursion (IsNamed n.declared) (statement_heads ys line s)
         → AllByRecursion (IsKept n) (statement_heads xs line s) → StatementFits (resolved n.declared s) → TextKeeps all (resolved n.declared s)
-    text_keeps xs ys line (syntax.Assign left right) named kept fit = assigned_text xs line left.name left.subscripts right kept.0 fit
+    text_keeps xs ys line (syntax.Assign left right) named kept fit =
+        let same = plain_assignment n xs line left right kept.0 in
+        subst (TextKeeps all) (sym same) (assigned_text xs line left.name left.subscripts right kept.0 (subst StatementFits same fit))
     text_keeps xs ys line (syntax.If arms rest) named kept fit =
         let m = all_split (IsNamed n.declared) (arm_heads ys arms) (else_heads ys rest) named in
         let k = all_split (IsKept n) (arm_heads xs arms) (else_heads xs rest) kept in

@@ -10,6 +10,7 @@
 //!   bounds have no fault, since an index is a scalar, and the bounds inside a nest name no index.
 //! - The lists of all loops of the nest are those of its resolved mark, and its REDUCTION variables have one operator each.
 //!
+//! - A nest assigns scalars and elements, so none of its assignments is a transformation of a whole array.
 //! - What has subscripts in an expression with a type and a rank is no scalar, so no nest assigns it as one.
 //!
 //! - Each name stands once in a symbol table, so a constant expression has its value in the resolved program too.

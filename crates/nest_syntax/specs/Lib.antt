@@ -22,6 +22,9 @@ pub use Rattle.array_meaning.specs.Sections
 pub use Rattle.array_meaning.specs.Elementals
 pub use Rattle.array_meaning.specs.Expressions
 pub use Rattle.array_meaning.specs.ArrayAssignments
+pub use Rattle.array_meaning.specs.Transformations
+pub use Rattle.array_meaning.specs.Dim
+pub use Rattle.array_meaning.specs.Dims
 pub use Rattle.array_meaning.specs.Forall
 pub use Rattle.array_meaning.specs.NestEntry
 pub use Rattle.array_meaning.specs.Execution

@@ -1,5 +1,6 @@
 mod Arms
 mod Parts
+mod Bounds
 mod InnerLoops
 mod NestBody
 mod NestOperators

@@ -43,7 +43,9 @@ mod print;
 mod programs;
 mod sequences;
 mod slots;
+mod source_subs;
 mod statements;
+mod transformations;
 mod where_construct;
 
 pub use moves::LineMoves;

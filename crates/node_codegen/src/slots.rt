@@ -8,6 +8,7 @@ ghost use Rattle.array_meaning.specs.Statements.{Arms};
 use crate::forall_header::header_slots;
 use crate::nest_code::marked_slots;
 use crate::print::items_slots;
+use crate::transformations::transform_slots;
 use crate::where_construct::masked_slots;
 use expression_code::{all_slots_of, control_slots, parts_slots, plus, slots_of, subscripts_slots};
 use hpf_base::OutOfMemory;
@@ -41,6 +42,7 @@ fn statement_slots(s: &Action) -> Result<usize, OutOfMemory>
             subscripts_slots(subscripts)?,
             parts_slots(right)?,
         ),
+        Action::Transform(target, source, how) => transform_slots(target, source, how),
         Action::If(arms, other) => {
             let most = arms_slots(arms)?;
             let rest = block_slots(other)?;

@@ -17,6 +17,7 @@ use crate::nest_code::marked_code;
 use crate::nests::bounds_code;
 use crate::print::print_code;
 use crate::sequences::{only, place_after, place_past, put_at, with_more};
+use crate::transformations::transform_code;
 use crate::where_construct::where_code;
 use expression_code::{control_slots, plus, slots_of};
 use hpf_base::OutOfMemory;
@@ -70,6 +71,9 @@ fn statement_code(
         ),
         Action::AssignSection(array, subscripts, right) => assignment_code(
             alloc, line, b, *array, subscripts, right,
+        ),
+        Action::Transform(target, source, how) => transform_code(
+            alloc, line, b, target, source, how,
         ),
         Action::If(arms, other) => {
             let made = arm_codes(alloc, copy, moves, arms, b, pc, leave, again)?;

@@ -5,7 +5,7 @@ use Rattle.std.specs.Coded.{Coded, code_by, codes}
 use Rattle.std.proofs.Common.{refl, ◌∙◌, ap}
 use Rattle.op_tables.specs.declared.op.Op.{Op}
 use Rattle.array_meaning.specs.Terms.{Term, Number, Scalar, Index, Element, Section, Apply, Reduce, Terms, NoTerm, More, SectionSubscripts, NoSubscript, Subscript, Triplet, Control}
-use Rattle.array_meaning.specs.Statements.{SectionAssignment, ElementAssignment, Item, Loop, Nest, Block, Done, Then, Statement, AssignScalar, AssignElement, AssignSection, If, Do, Where, Forall, Print, Stop, Exit, Cycle, Continue, Redistribute, Mark, Unmarked, Outermost, Arms, NoArm, Arm}
+use Rattle.array_meaning.specs.Statements.{SectionAssignment, ElementAssignment, WholeArray, Transformation, Item, Loop, Nest, Block, Done, Then, Statement, AssignScalar, AssignElement, AssignSection, Transform, If, Do, Where, Forall, Print, Stop, Exit, Cycle, Continue, Redistribute, Mark, Unmarked, Outermost, Arms, NoArm, Arm}
 
 -- ---- expressions
 
@@ -131,6 +131,7 @@ data StatementToken : Type 0 where
   TAssignScalar : ℕ → Term → StatementToken
   TAssignElement : ℕ → Terms → Term → StatementToken
   TAssignSection : ℕ → SectionSubscripts → Term → StatementToken
+  TTransform : (target source : WholeArray) → Transformation → StatementToken
   TIf : StatementToken
   TDo : Loop → StatementToken
   TWhere : Term → List SectionAssignment → List SectionAssignment → StatementToken
@@ -155,6 +156,7 @@ abbrev mutual
   statement_tokens (AssignScalar k t) rest = TAssignScalar k t ∷ rest
   statement_tokens (AssignElement a ts t) rest = TAssignElement a ts t ∷ rest
   statement_tokens (AssignSection a subs t) rest = TAssignSection a subs t ∷ rest
+  statement_tokens (Transform x y how) rest = TTransform x y how ∷ rest
   statement_tokens (If arms other) rest = arms_tokens arms (block_tokens other (TIf ∷ rest))
   statement_tokens (Do mark loop body) rest = mark_tokens mark (block_tokens body (TDo loop ∷ rest))
   statement_tokens (Where mask body others) rest = TWhere mask body others ∷ rest
@@ -188,6 +190,7 @@ with_statement (TThen line) stack = stack
 with_statement (TAssignScalar k t) stack = OneStatement (AssignScalar k t) ∷ stack
 with_statement (TAssignElement a ts t) stack = OneStatement (AssignElement a ts t) ∷ stack
 with_statement (TAssignSection a subs t) stack = OneStatement (AssignSection a subs t) ∷ stack
+with_statement (TTransform x y how) stack = OneStatement (Transform x y how) ∷ stack
 with_statement TIf (OneBlock other ∷ SomeArms arms ∷ stack) = OneStatement (If arms other) ∷ stack
 with_statement TIf stack = stack
 with_statement (TDo loop) (OneBlock body ∷ OneMark mark ∷ stack) = OneStatement (Do mark loop body) ∷ stack
@@ -221,6 +224,7 @@ mutual
   statement_back (AssignScalar k t) rest stack = refl
   statement_back (AssignElement a ts t) rest stack = refl
   statement_back (AssignSection a subs t) rest stack = refl
+  statement_back (Transform x y how) rest stack = refl
   statement_back (If arms other) rest stack = arms_back arms (block_tokens other (TIf ∷ rest)) stack ∙ block_back other (TIf ∷ rest) (SomeArms arms ∷ stack)
   statement_back (Do mark loop body) rest stack = mark_back mark (block_tokens body (TDo loop ∷ rest)) stack ∙ block_back body (TDo loop ∷ rest) (OneMark mark ∷ stack)
   statement_back (Where mask body others) rest stack = refl

@@ -6,6 +6,7 @@ use Rattle.std.proofs.lemmas.List.FromFn.{length-range_with_len}
 use Rattle.hpf_base.specs.declared.index.Shape.{Shape}
 use Rattle.syntax_tree.specs.MainProgram.{MainProgram}
 use Rattle.name_table.specs.Entries.{entries}
+use Rattle.name_table.specs.KnownSymbols.{AllAreKnown}
 use Rattle.accepted_program.specs.Accepted.{KeepsRules}
 use Rattle.array_meaning.specs.Faults.{Fault}
 use Rattle.array_meaning.specs.Serial.{End}
@@ -28,7 +29,7 @@ use Rattle.code_meaning.specs.Instructions.{ArrayTable, meaning_of, remappings}
 use Rattle.node_code.specs.Instructions.{Instruction, NewMapping}
 use Rattle.code_meaning.specs.FaultValues.{fault_values}
 use Rattle.code_meaning.specs.ProgramText.{Text, table_on, text, text_meaning}
-use Rattle.nest_standing.proofs.ValidPrograms.{trail_lowered, valid}
+use Rattle.nest_standing.proofs.ValidPrograms.{ranked, trail_lowered, valid}
 use Rattle.array_meaning.specs.Resolution.{initial_state, resolved_block}
 use Rattle.nest_items.specs.BlockForms.{BlockHasForms}
 use Rattle.fitting_states.specs.FittingStates.{ProgramFits}
@@ -54,7 +55,7 @@ end-over Finished e h = tt
 end-over (Faulted f) e h = tt
 
 module _ (nodes : ℕ) (p : MainProgram) (maps : List Mapping) (moves : ℕ → List NewMapping) (layouts : List Layout) (some : 0 < nodes) (rules : KeepsRules p) (fit : ProgramFits p)
-    (laid : LieAsDeclared nodes (program_copies p) (entries p) layouts) (dealt : MovesDealt nodes p maps moves layouts) where
+    (known : AllAreKnown p) (laid : LieAsDeclared nodes (program_copies p) (entries p) layouts) (dealt : MovesDealt nodes p maps moves layouts) where
   abbrev n : ℕ
   n = length (entries p)
 
@@ -88,7 +89,7 @@ module _ (nodes : ℕ) (p : MainProgram) (maps : List Mapping) (moves : ℕ → 
   lowered : MachinePasses n table moves m (program_run p) (serial_trail p)
   lowered =
       let enough : program_copies p ≤ program_copies p = omega arith in
-      trail_lowered p (program_copies p) moves table layouts (tables-are nodes maps (initial_state (entries p))) enough
+      trail_lowered p (program_copies p) moves table layouts (ranked p known rules.resolved) (tables-are nodes maps (initial_state (entries p))) enough
       (laid-many nodes (program_copies p) (entries p) layouts laid) rules.resolved rules.bodies_fine forms fit
 
   -- the same over its texts: they are valid, the machine is whole, and it comes to its end

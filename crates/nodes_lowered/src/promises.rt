@@ -23,6 +23,7 @@ ghost use Rattle.code_meaning.specs.Instructions.{remappings};
 ghost use Rattle.nodes_lowered.specs.NewMappings.{new_mappings, numbered_at, remapping, program_mappings, program_remaps};
 
 use array_maps::line_moves_are_valid;
+use name_table::all_are_known;
 
 /// The arrays of a program lie on as many nodes as a grid has with the mappings that they have at the start, where these are valid: each
 /// has the shape of its declaration, and each of its elements an owner. After them there may be any number of copies.
@@ -40,21 +41,27 @@ pub fn arrays_lie_as_mapped()
 pub fn programs_run_on_nodes()
     ensures { (nodes : ℕ) (p : MainProgram) (maps : List Mapping) (moves : ℕ → List NewMapping) (layouts : List Layout) → 0 < nodes → KeepsRules p → ProgramFits p
         → LieAsDeclared nodes (program_copies p) (entries p) layouts → MovesDealt nodes p maps moves layouts → RunOnNodes nodes p maps moves layouts }
-{}
+{
+    all_are_known();
+}
 
 /// On their way to that end these nodes pass the program's trail: for each of its entries all of them come to stand before an instruction that
 /// is that entry, with the scalars of that moment, and there the arrays lie as at first, with the redistributions before it.
 pub fn trails_on_nodes()
     ensures { (nodes : ℕ) (p : MainProgram) (maps : List Mapping) (moves : ℕ → List NewMapping) (layouts : List Layout) → 0 < nodes → KeepsRules p → ProgramFits p
         → LieAsDeclared nodes (program_copies p) (entries p) layouts → MovesDealt nodes p maps moves layouts → TrailOnNodes nodes p maps moves layouts }
-{}
+{
+    all_are_known();
+}
 
 /// All letters of these nodes are known: of each pair they are those of the phases that the steps of the machine with whole arrays say, in
 /// order, each with the number of its phase, the pair's next number, and the values of the whole arrays. There are no others.
 pub fn letters_on_nodes()
     ensures { (nodes : ℕ) (p : MainProgram) (maps : List Mapping) (moves : ℕ → List NewMapping) (layouts : List Layout) → 0 < nodes → KeepsRules p → ProgramFits p
         → LieAsDeclared nodes (program_copies p) (entries p) layouts → MovesDealt nodes p maps moves layouts → LettersOnNodes nodes p maps moves layouts }
-{}
+{
+    all_are_known();
+}
 
 /// What a line moves by numbers is, by the mappings with these numbers, what its redistributions say: each array that they move, by its
 /// place, with its new mapping.

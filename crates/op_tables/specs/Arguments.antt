@@ -1,11 +1,12 @@
 -- Of the claim.
 -- What operators and intrinsic procedures take, and which of them are more than elemental (Fortran 95, 7.1.2 and 13.11; HPF 2.0,
 -- 7.1).
-use Rattle.std.specs.Prelude.{ℕ, Bool, true, false, ◌&&◌, nat_le}
+use Rattle.std.specs.Prelude.{ℕ, Bool, true, false, ◌&&◌, ◌||◌, nat_le}
 use Rattle.op_tables.specs.declared.op.Op.{Op}
 use Rattle.op_tables.specs.declared.op.Op.TheVariants as op
 
--- how few and how many arguments it takes
+-- how few and how many operands or arguments it takes in an expression. No number is right for SUM_PREFIX, CSHIFT and TRANSPOSE, which stand in
+-- none: each is the whole right side of an assignment
 abbrev pub fewest : Op → ℕ
 fewest op.Neg = 1
 fewest op.Plus = 1
@@ -28,6 +29,9 @@ most op.Max = 7
 most op.Min = 7
 most op.Size = 2
 most op.Nodes = 1
+most op.SumPrefix = 0
+most op.CShift = 0
+most op.Transpose = 0
 most o = fewest o
 
 abbrev pub takes : Op → ℕ → Bool
@@ -55,3 +59,14 @@ is_inquiry o = false
 abbrev pub is_processor_count : Op → Bool
 is_processor_count op.Nodes = true
 is_processor_count o = false
+
+-- SUM_PREFIX, CSHIFT and TRANSPOSE, which make of a whole array a whole array (13.11.17; HPF 2.0, 7.4)
+abbrev pub is_transformation : Op → Bool
+is_transformation op.SumPrefix = true
+is_transformation op.CShift = true
+is_transformation op.Transpose = true
+is_transformation o = false
+
+-- one that isn't elemental (13.1): no constant expression has it
+abbrev pub is_transformational : Op → Bool
+is_transformational o = is_reduction o || is_transformation o

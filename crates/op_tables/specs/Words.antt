@@ -41,10 +41,11 @@ left_out_words =
 -- the names of intrinsic procedures (Fortran 95, 13; HPF 2.0, 7)
 abbrev pub intrinsic_words : List (List ℕ)
 intrinsic_words =
-    codes "ABS" ∷ codes "ALL" ∷ codes "ANY" ∷ codes "COUNT" ∷ codes "DIM" ∷ codes "IAND" ∷ codes "IEOR" ∷
-    codes "IOR" ∷ codes "LBOUND" ∷ codes "MAX" ∷ codes "MAXVAL" ∷ codes "MIN" ∷ codes "MINVAL" ∷ codes "MOD" ∷
-    codes "MODULO" ∷ codes "NOT" ∷ codes "NUMBER_OF_PROCESSORS" ∷ codes "PROCESSORS_SHAPE" ∷ codes "PRODUCT" ∷
-    codes "SIGN" ∷ codes "SIZE" ∷ codes "SUM" ∷ codes "UBOUND" ∷ []
+    codes "ABS" ∷ codes "ALL" ∷ codes "ANY" ∷ codes "COUNT" ∷ codes "CSHIFT" ∷ codes "DIM" ∷ codes "IAND" ∷
+    codes "IEOR" ∷ codes "IOR" ∷ codes "LBOUND" ∷ codes "MAX" ∷ codes "MAXVAL" ∷ codes "MIN" ∷ codes "MINVAL" ∷
+    codes "MOD" ∷ codes "MODULO" ∷ codes "NOT" ∷ codes "NUMBER_OF_PROCESSORS" ∷ codes "PROCESSORS_SHAPE" ∷
+    codes "PRODUCT" ∷ codes "SIGN" ∷ codes "SIZE" ∷ codes "SUM" ∷ codes "SUM_PREFIX" ∷ codes "TRANSPOSE" ∷
+    codes "UBOUND" ∷ []
 
 -- the code of a word in a table; None exactly where it isn't there
 abbrev pub code_in : List (List ℕ) → List ℕ → Option ℕ

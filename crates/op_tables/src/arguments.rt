@@ -1,7 +1,7 @@
 //! What operators and intrinsic procedures take.
 
 ghost use Rattle.std.specs.Prelude.{◌≡◌};
-ghost use Rattle.op_tables.specs.Arguments.{fewest, is_inquiry, is_processor_count, is_reduction, most, takes};
+ghost use Rattle.op_tables.specs.Arguments.{fewest, is_inquiry, is_processor_count, is_reduction, is_transformation, is_transformational, most, takes};
 
 use crate::op::Op;
 
@@ -25,11 +25,13 @@ fn most(op: Op) -> usize
         Op::Max | Op::Min => 7,
         Op::Size => 2,
         Op::Nodes => 1,
+        Op::SumPrefix | Op::CShift | Op::Transpose => 0,
         _ => fewest(op),
     }
 }
 
-/// Whether an operator or intrinsic procedure takes so many operands or arguments. It takes no memory.
+/// Whether an operator or intrinsic procedure takes so many operands or arguments in an expression. SUM_PREFIX, CSHIFT and TRANSPOSE stand in
+/// none. It takes no memory.
 pub fn takes(op: Op, count: usize) -> bool
     ensures { result ≡ takes op count }
 {
@@ -58,4 +60,18 @@ pub fn is_processor_count(op: Op) -> bool
     ensures { result ≡ is_processor_count op }
 {
     matches!(op, Op::Nodes)
+}
+
+/// Whether it makes of a whole array a whole array: SUM_PREFIX, CSHIFT or TRANSPOSE.
+fn is_transformation(op: Op) -> bool
+    ensures { result ≡ is_transformation op }
+{
+    matches!(op, Op::SumPrefix | Op::CShift | Op::Transpose)
+}
+
+/// Whether it isn't elemental: a reduction, or one of those. It takes no memory.
+pub fn is_transformational(op: Op) -> bool
+    ensures { result ≡ is_transformational op }
+{
+    is_reduction(op) || is_transformation(op)
 }

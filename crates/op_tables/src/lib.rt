@@ -30,7 +30,7 @@ mod reserved;
 mod statements;
 mod table;
 
-pub use arguments::{is_inquiry, is_processor_count, is_reduction, takes};
+pub use arguments::{is_inquiry, is_processor_count, is_reduction, is_transformational, takes};
 pub use dots::dot_word;
 pub use intrinsics::intrinsic_word;
 pub use join::Join;

@@ -1,14 +1,17 @@
 -- Of the claim.
 -- The code of statements and of programs. Each statement takes slots from `b` on anew, and keeps those below.
-use Rattle.std.specs.Prelude.{ℕ, ◌+◌, List, [], ◌∷◌, ◌++◌, length, map, max, pos, Bool, true, false, Option, Some, None, option_map}
+use Rattle.std.specs.Prelude.{ℕ, ◌+◌, List, [], ◌∷◌, ◌++◌, length, map, max, reverse, pos, Bool, true, false, Option, Some, None, option_map}
 use Rattle.op_tables.specs.declared.op.Op.TheVariants as op
-use Rattle.array_meaning.specs.Terms.{Term, Scalar, list_of, SectionSubscripts, NoSubscript, Triplet, Control}
+use Rattle.array_meaning.specs.Terms.{Term, Number, Scalar, Apply, Terms, NoTerm, More, list_of, SectionSubscripts, NoSubscript, Triplet, Control}
 use Rattle.array_meaning.specs.Statements as statements
-use Rattle.array_meaning.specs.Statements.{Item, Text, Value, Elements, SectionAssignment, ElementAssignment, Loop, Mark, Unmarked, Outermost, Block, Done, Then, Statement, AssignScalar, AssignElement, AssignSection, If, Do, Where, Forall, Stop, Exit, Cycle, Continue, Redistribute, Arms, NoArm, Arm}
+use Rattle.array_meaning.specs.Statements.{Item, Text, Value, Elements, SectionAssignment, ElementAssignment, WholeArray, Transformation, CircularShift, Transposition, Loop, Mark, Unmarked, Outermost, Block, Done, Then, Statement, AssignScalar, AssignElement, AssignSection, Transform, If, Do, Where, Forall, Stop, Exit, Cycle, Continue, Redistribute, Arms, NoArm, Arm}
 use Rattle.array_meaning.specs.Forall.{all_subscripts}
+use Rattle.array_meaning.specs.Resolution.{whole}
+use Rattle.array_meaning.specs.Transformations.{has_shape}
 use Rattle.statement_trail.specs.Anchors.{forall_anchor, where_anchor}
+use Rattle.statement_trail.specs.TransformedElements.{first_extent, indices_from, source_element}
 use Rattle.node_code.specs.Flat.{Int, Slot, Operated, NoFlat, AndFlat}
-use Rattle.node_code.specs.Forms.{Sub, SectionForm}
+use Rattle.node_code.specs.Forms.{Sub, FlatForm, SectionForm}
 use Rattle.node_code.specs.Anchors.{FlatAnchor}
 use Rattle.node_code.specs.Parallel.{When, Assignment, Evaluation}
 use Rattle.node_code.specs.Instructions.{NewMapping, PrintItem, PrintBytes, PrintNumber, PrintSection, Instruction, Set, Store, TestBounds, TestStride, Trips, Jump, JumpIfZero, Halt, Limits, OwnLimits, ForallLimits, OneToOne, Check, Par, ParForall, MakeCopy, ParCopy, ParForallCopy, Verdict, Inside, Print, Remap}
@@ -178,6 +181,57 @@ forall_code copy line b controls mask body =
     ∷ (one_to_one_code over body
     ++ (forall_mask_code copy line over beside mask ++ forall_assignments_code over (option_map (λ t. where_true copy true) mask) beside body))
 
+-- ---- transformations of whole arrays
+
+-- so many places modulo the first extent, in a slot
+abbrev pub turn_operands : WholeArray → Term → Terms
+turn_operands x by = More by (More (Number (pos (first_extent x))) NoTerm)
+
+abbrev pub turn_slots : WholeArray → Transformation → ℕ
+turn_slots x (CircularShift by) = slots_of (Apply op.Modulo (turn_operands x by))
+turn_slots x Transposition = 0
+
+abbrev pub turn_code : ℕ → ℕ → WholeArray → Transformation → List Instruction
+turn_code line b x (CircularShift by) = code_of line b (Apply op.Modulo (turn_operands x by))
+turn_code line b x Transposition = []
+
+abbrev pub turn_in_slot : ℕ → WholeArray → Transformation → Term
+turn_in_slot b x (CircularShift by) = Scalar (b + all_slots_of (turn_operands x by))
+turn_in_slot b x Transposition = Number (pos 0)
+
+-- the assignment of elements, over the target's own subscripts, whose triplets stand in slots from b1 on
+abbrev pub transform_assignment : ℕ → (b b1 : ℕ) → WholeArray → WholeArray → Transformation → Assignment
+transform_assignment line b b1 x y how =
+    forall_assignment (subs_of b1 (whole x.dims)) None None
+    (record { line = line; array = x.array; subscripts = indices_from 0 x.dims; right = source_element x y how (turn_in_slot b x how) })
+
+abbrev pub in_order : Transformation → List Sub → List Sub
+in_order (CircularShift by) subs = subs
+in_order Transposition subs = reverse subs
+
+-- an assignment to the whole source over the space of the target, which has another shape
+abbrev pub misfit : ℕ → (b1 b2 : ℕ) → WholeArray → WholeArray → Transformation → Assignment
+misfit line b1 b2 x y how = record {
+  line = line;
+  array = y.array;
+  left = subs_of b2 (whole y.dims);
+  right = FlatForm (Int (pos 0));
+  over = in_order how (subs_of b1 (whole x.dims));
+  mask = None;
+  beside = None;
+}
+
+-- what comes after the triplets of the target: its assignment, which has no fault, or Shape
+abbrev pub fitted_code : Bool → ℕ → (b b1 b2 : ℕ) → WholeArray → WholeArray → Transformation → List Instruction
+fitted_code true line b b1 b2 x y how = ParForall (transform_assignment line b b1 x y how) ∷ []
+fitted_code false line b b1 b2 x y how = subscripts_code line b2 (whole y.dims) ++ Limits (misfit line b1 b2 x y how) ∷ []
+
+abbrev pub transform_code : ℕ → ℕ → WholeArray → WholeArray → Transformation → List Instruction
+transform_code line b x y how =
+    let b1 : ℕ = b + turn_slots x how in
+    let b2 : ℕ = b1 + subscripts_slots (whole x.dims) in
+    turn_code line b x how ++ (subscripts_code line b1 (whole x.dims) ++ fitted_code (has_shape x y how) line b b1 b2 x y how)
+
 -- ---- nests of INDEPENDENT loops
 
 -- the bounds of the outermost loop, which are evaluated once, by their slots
@@ -208,6 +262,7 @@ abbrev mutual
   statement_slots (AssignScalar k t) = slots_of t
   statement_slots (AssignElement a ts t) = all_slots_of ts + slots_of t
   statement_slots (AssignSection a subs t) = subscripts_slots subs + parts_slots t
+  statement_slots (Transform x y how) = turn_slots x how + (subscripts_slots (whole x.dims) + subscripts_slots (whole y.dims))
   statement_slots (If arms other) = max (arms_slots arms) (block_slots other)
   statement_slots (Do mark loop body) = control_slots loop.control + marked_slots mark (4 + block_slots body)
   statement_slots (Where mask body others) = parts_slots mask + max (masked_slots body) (masked_slots others)
@@ -255,6 +310,7 @@ module _ (copy : ℕ) (moves : ℕ → List NewMapping) where
         let b1 : ℕ = b + all_slots_of ts in
         codes_of line b ts ++ TestBounds line a (flats_of b ts) ∷ (code_of line b1 t ++ Store line a (flats_of b ts) (flat_of b1 t) ∷ [])
     statement_code line (AssignSection a subs t) b pc leave again = assignment_code line b a subs t None
+    statement_code line (Transform x y how) b pc leave again = transform_code line b x y how
     statement_code line (If arms other) b pc leave again = arms_code arms (λ pc. block_code other b pc leave again) b pc leave again
     statement_code line (Do mark loop body) b pc leave again =
         let v : ℕ = b + control_slots loop.control in

@@ -2,3 +2,4 @@ mod Parts
 mod Assigned
 mod NestLaws
 mod StatementForms
+mod NoLoops

@@ -14,7 +14,6 @@ use Rattle.syntax_tree.specs.Statement.{assignments_of, axis}
 use Rattle.syntax_tree.proofs.Rows.{arms_vec, assignments_vec, block_vec}
 use Rattle.array_meaning.specs.Statements.{Arm, Done, If, Unmarked, Where}
 use Rattle.array_meaning.specs.Resolution.{inner_mark, resolved, resolved_arms, resolved_block, section_assignments, term_of, with_inner_unmarked}
-use Rattle.resolved_program.specs.Resolved.{arms_of, block_of, statement}
 use Rattle.program_plan.proofs.NestLaws.{two}
 
 -- ---- statements of a tree

@@ -2,24 +2,36 @@
 
 ghost use Rattle.std.specs.Prelude.{◌≡◌, ◌++◌, [], map, IfOk, OnOk};
 ghost use Rattle.syntax_tree.specs.Expression.{expression};
-ghost use Rattle.syntax_tree.specs.Statement.{assignments_in, assignments_of, variable};
-ghost use Rattle.array_meaning.specs.Resolution.{assignment, element_assignments, left_of, section_assignments, term_of};
+ghost use Rattle.syntax_tree.specs.Statement.{assignments_in, assignments_of, designator, variable};
+ghost use Rattle.array_meaning.specs.Resolution.{assignment, element_assignments, left_of, section_assignments, term_of, transform_or, transformation_of};
 ghost use Rattle.resolved_program.specs.Resolved.{element_assignment, section_assignment, statement, term};
 
 use crate::expressions::{reference_term, term};
+use crate::transformations::transform;
 use hpf_base::{Name, OutOfMemory};
 use name_table::Names;
 use resolved_program::{Action, ElementAssignment, SectionAssignment, Term};
 use std::alloc::Global;
 use syntax_tree::{Expr, Ref, StatementKind, Stmt};
 
-/// An assignment by itself.
+/// An assignment by itself, or the transformation that it is.
 pub(crate) fn assignment(
     alloc: Global,
     names: &Names,
     left: &Ref,
     right: &Expr,
 ) -> Result<Action, OutOfMemory>
+    ensures { IfOk result (λ a. statement a ≡ transform_or names.now (designator (variable left.now)) (transformation_of names.now (expression right.now))
+        (assignment (left_of names.now [] (variable left.now)) (term_of names.now [] (expression right.now)))) }
+{
+    match transform(alloc, names, left, right)? {
+        Some(what) => Ok(what),
+        None => with_sides(alloc, names, left, right),
+    }
+}
+
+/// An assignment that is no transformation.
+fn with_sides(alloc: Global, names: &Names, left: &Ref, right: &Expr) -> Result<Action, OutOfMemory>
     ensures { IfOk result (λ a. statement a ≡ assignment (left_of names.now [] (variable left.now)) (term_of names.now [] (expression right.now))) }
 {
     let left = left_side(alloc, names, &[], left)?;

@@ -16,5 +16,6 @@ mod expressions;
 mod items;
 mod named;
 mod nests;
+mod transformations;
 
 pub use blocks::plan;

@@ -9,14 +9,17 @@ use Rattle.resolved_program.specs.declared.statements.Loop.{Loop as HeldLoop}
 use Rattle.resolved_program.specs.declared.statements.Nest.{Nest as HeldNest}
 use Rattle.resolved_program.specs.declared.statements.SectionAssignment.{SectionAssignment as HeldSectionAssignment}
 use Rattle.resolved_program.specs.declared.statements.ElementAssignment.{ElementAssignment as HeldElementAssignment}
+use Rattle.resolved_program.specs.declared.statements.WholeArray.{WholeArray as HeldWholeArray}
+use Rattle.resolved_program.specs.declared.statements.Transformation.{Transformation as HeldTransformation}
+use Rattle.resolved_program.specs.declared.statements.Transformation.TheVariants as how
 use Rattle.resolved_program.specs.declared.statements.Item.{Item as HeldItem}
 use Rattle.resolved_program.specs.declared.statements.Item.TheVariants as held
 use Rattle.resolved_program.specs.declared.statements.Arm.{Arm as HeldArm}
 use Rattle.resolved_program.specs.declared.statements.Statement.{Statement as HeldStatement}
 use Rattle.resolved_program.specs.declared.statements.Action.{Action}
-use Rattle.resolved_program.specs.declared.statements.Action.TheBlock.{AssignScalar as AssignScalar', AssignElement as AssignElement', AssignSection as AssignSection', If', Do', Where as Where', Forall as Forall', Print as Print', Stop as Stop', Exit as Exit', Cycle as Cycle', Continue as Continue', Redistribute as Redistribute', struct-Arm, Row_of-Statement, end_of-Statement, more_of-Statement, Row_of-Arm, end_of-Arm, more_of-Arm}
+use Rattle.resolved_program.specs.declared.statements.Action.TheBlock.{AssignScalar as AssignScalar', AssignElement as AssignElement', AssignSection as AssignSection', Transform as Transform', If', Do', Where as Where', Forall as Forall', Print as Print', Stop as Stop', Exit as Exit', Cycle as Cycle', Continue as Continue', Redistribute as Redistribute', struct-Arm, Row_of-Statement, end_of-Statement, more_of-Statement, Row_of-Arm, end_of-Arm, more_of-Arm}
 use Rattle.array_meaning.specs.Terms.{Term, Number, Scalar, Index, Element, Section, Apply, Reduce, Terms, NoTerm, More, SectionSubscripts, NoSubscript, Subscript, Triplet, Control}
-use Rattle.array_meaning.specs.Statements.{SectionAssignment, ElementAssignment, Item, Text, Value, Elements, Loop, Block, Done, Then, Statement, AssignScalar, AssignElement, AssignSection, If, Do, Where, Forall, Print, Stop, Exit, Cycle, Continue, Redistribute, Mark, Unmarked, Outermost, Arms, NoArm, Arm}
+use Rattle.array_meaning.specs.Statements.{SectionAssignment, ElementAssignment, WholeArray, Transformation, CircularShift, Transposition, Item, Text, Value, Elements, Loop, Block, Done, Then, Statement, AssignScalar, AssignElement, AssignSection, Transform, If, Do, Where, Forall, Print, Stop, Exit, Cycle, Continue, Redistribute, Mark, Unmarked, Outermost, Arms, NoArm, Arm}
 
 -- ---- expressions
 
@@ -65,6 +68,13 @@ section_assignment b = record { line = b.line; array = b.array; subscripts = sub
 abbrev pub element_assignment : HeldElementAssignment → ElementAssignment
 element_assignment b = record { line = b.line; array = b.array; subscripts = terms_of b.subscripts.items; right = term b.right }
 
+abbrev pub whole_array : HeldWholeArray → WholeArray
+whole_array w = record { array = w.array; dims = w.dims }
+
+abbrev pub transformation : HeldTransformation → Transformation
+transformation (how.CircularShift by) = CircularShift (term by)
+transformation how.Transposition = Transposition
+
 abbrev pub item : HeldItem → Item
 item (held.Text bytes) = Text bytes.items
 item (held.Value t) = Value (term t)
@@ -97,6 +107,7 @@ abbrev mutual
   statement (AssignScalar' k t) = AssignScalar k (term t)
   statement (AssignElement' a ts t) = AssignElement a (terms_of ts.items) (term t)
   statement (AssignSection' a ds t) = AssignSection a (subscripts_of ds.items) (term t)
+  statement (Transform' x y how) = Transform (whole_array x) (whole_array y) (transformation how)
   statement (If' shape arms' shape' row) = If (arms arms') (block row)
   statement (Do' nest loop shape row) = do_loop nest (loop_of loop) (block row)
   statement (Where' mask body others) = Where (term mask) (map section_assignment body.items) (map section_assignment others.items)

@@ -1,12 +1,13 @@
 //! Copies of statements, so that code can own what it is made of. An `Err` is want of memory here.
 
 ghost use Rattle.std.specs.Prelude.{◌≡◌, Some, map, option_map, IfOk};
-ghost use Rattle.array_meaning.specs.Statements.{Arms, Block, Forall, Loop as LoopMeaning, Where};
+ghost use Rattle.array_meaning.specs.Statements.{Arms, Block, Forall, Loop as LoopMeaning, Transform, Where};
 ghost use Rattle.array_meaning.specs.Terms.{SectionSubscripts};
-ghost use Rattle.resolved_program.specs.Resolved.{arms_of, block_of, control, element_assignment, item, loop_of, mark, section_assignment, statement, subscripts_of, term, terms_of, with_arm, with_subscript};
+ghost use Rattle.resolved_program.specs.Resolved.{arms_of, block_of, control, element_assignment, item, loop_of, mark, section_assignment, statement, subscripts_of, term, terms_of, transformation, whole_array, with_arm, with_subscript};
 
 use crate::statements::{
     Action, Arm, Control, ElementAssignment, Item, Loop, Nest, SectionAssignment, Statement,
+    Transformation, WholeArray,
 };
 use crate::terms::{SectionSubscript, Term};
 use std::alloc::{AllocError, Global};
@@ -305,6 +306,7 @@ fn copied_action(alloc: Global, s: &Action) -> Result<Action, AllocError>
             copied_subscripts(alloc, subscripts)?,
             copied_term(alloc, right)?,
         )),
+        Action::Transform(target, source, how) => transform(alloc, target, source, how),
         Action::If(arms, other) => Ok(Action::If(
             copied_arms(alloc, arms)?,
             copied_block(alloc, other)?,
@@ -323,6 +325,45 @@ fn copied_action(alloc: Global, s: &Action) -> Result<Action, AllocError>
         Action::Continue => Ok(Action::Continue),
         Action::Redistribute => Ok(Action::Redistribute),
     }
+}
+
+/// A whole array with its dimensions.
+fn copied_whole(alloc: Global, w: &WholeArray) -> Result<WholeArray, AllocError>
+    ensures { IfOk result (λ r. whole_array r ≡ whole_array w.now) }
+{
+    let dims = w.dims.copy(alloc)?;
+    Ok(WholeArray {
+        array: w.array,
+        dims,
+    })
+}
+
+/// How a whole array is made of another.
+fn copied_transformation(alloc: Global, how: &Transformation) -> Result<Transformation, AllocError>
+    ensures { IfOk result (λ r. transformation r ≡ transformation how.now) }
+{
+    match how {
+        Transformation::CircularShift(by) => {
+            let by = copied_term(alloc, by)?;
+            Ok(Transformation::CircularShift(by))
+        }
+        Transformation::Transposition => Ok(Transformation::Transposition),
+    }
+}
+
+/// A transformation of a whole array.
+fn transform(
+    alloc: Global,
+    target: &WholeArray,
+    source: &WholeArray,
+    how: &Transformation,
+) -> Result<Action, AllocError>
+    ensures { IfOk result (λ r. statement r ≡ Transform (whole_array target.now) (whole_array source.now) (transformation how.now)) }
+{
+    let target = copied_whole(alloc, target)?;
+    let source = copied_whole(alloc, source)?;
+    let how = copied_transformation(alloc, how)?;
+    Ok(Action::Transform(target, source, how))
 }
 
 /// A WHERE.

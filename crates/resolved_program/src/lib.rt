@@ -16,6 +16,6 @@ mod terms;
 pub use copies::{copied, copied_loop, copied_nest};
 pub use statements::{
     Action, Arm, Control, ElementAssignment, Item, Loop, Nest, ResolvedProgram, SectionAssignment,
-    Statement,
+    Statement, Transformation, WholeArray,
 };
 pub use terms::{SectionSubscript, Term};

@@ -1,6 +1,7 @@
 //! Statements whose names are resolved.
 
 use crate::terms::{SectionSubscript, Term};
+use expression_rules::Dims;
 
 /// A program: its statements, in order.
 #[derive(Drop)]
@@ -16,13 +17,15 @@ pub struct Statement {
     pub what: Action,
 }
 
-/// What a statement does (Fortran 95, 7.5, 8.1 and 9.4).
+/// What a statement does (Fortran 95, 7.5, 8.1, 9.4 and 13.14).
 #[derive(Drop)]
 #[cycle(statement)]
 pub enum Action {
     AssignScalar(usize, Term),
     AssignElement(usize, Vec<Term>, Term),
     AssignSection(usize, Vec<SectionSubscript>, Term),
+    /// A whole array, the whole array that it is made of, and how.
+    Transform(WholeArray, WholeArray, Transformation),
     /// IF and its ELSE IFs in order, and the block of ELSE, which is empty where there is none.
     If(Vec<Arm>, Vec<Statement>),
     /// A loop and its body. The nest is that of INDEPENDENT loops of which this one is the outermost.
@@ -37,6 +40,20 @@ pub enum Action {
     Cycle,
     Continue,
     Redistribute,
+}
+
+/// An array that is named by itself, by the place of its name, with its dimensions.
+#[derive(Drop)]
+pub struct WholeArray {
+    pub array: usize,
+    pub dims: Dims,
+}
+
+/// What makes of a whole array a whole array: CSHIFT, by so many places along the first dimension, and TRANSPOSE (13.14.25 and 13.14.114).
+#[derive(Drop)]
+pub enum Transformation {
+    CircularShift(Term),
+    Transposition,
 }
 
 /// A condition with its block, and the number of its line.

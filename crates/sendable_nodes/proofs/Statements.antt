@@ -1,6 +1,7 @@
 -- Statements of the resolved program may be sent and shared.
 use denote.Param.Send.{sendable}
 use Rattle.std.proofs.Crossing.{crosses}
+use Rattle.expression_rules.specs.contracts.dims.Dims as Dims
 use Rattle.resolved_program.proofs.statements.Action.TheLaws.TheKnot.{crosses as statement_crosses}
 use Rattle.resolved_program.specs.contracts.statements.Control as Control
 use Rattle.resolved_program.specs.contracts.statements.ElementAssignment as ElementAssignment
@@ -9,6 +10,8 @@ use Rattle.resolved_program.specs.contracts.statements.Loop as Loop
 use Rattle.resolved_program.specs.contracts.statements.Nest as Nest
 use Rattle.resolved_program.specs.contracts.statements.SectionAssignment as SectionAssignment
 use Rattle.resolved_program.specs.contracts.statements.Statement as Statement
+use Rattle.resolved_program.specs.contracts.statements.Transformation as Transformation
+use Rattle.resolved_program.specs.contracts.statements.WholeArray as WholeArray
 use Rattle.resolved_program.specs.contracts.terms.SectionSubscript as Subscript
 use Rattle.resolved_program.specs.contracts.terms.Term as Term
 use Rattle.sendable_nodes.proofs.ThreadSafety.{IsThreadSafe, thread_safe}
@@ -38,6 +41,15 @@ section_assignment = search (thread_safe, term, subscript) depth 20
 element_assignment : IsThreadSafe ElementAssignment.the_row
 element_assignment = search (thread_safe, term) depth 20
 
+dims : IsThreadSafe (Dims.the_field).row
+dims = search thread_safe depth 20
+
+whole_array : IsThreadSafe (WholeArray.the_field).row
+whole_array = search (thread_safe, dims) depth 20
+
+transformation : IsThreadSafe (Transformation.the_field).row
+transformation = search (thread_safe, term) depth 20
+
 item : IsThreadSafe Item.the_row
 item = search (thread_safe, term, subscript) depth 20
 
@@ -53,6 +65,8 @@ statement = record {
     nest.send,
     loop.send,
     control_row.send,
+    whole_array.send,
+    transformation.send,
     section_assignment.send,
     element_assignment.send,
     item.send,
@@ -67,6 +81,8 @@ statement = record {
     nest.sync,
     loop.sync,
     control_row.sync,
+    whole_array.sync,
+    transformation.sync,
     section_assignment.sync,
     element_assignment.sync,
     item.sync,

@@ -4,5 +4,7 @@ mod Statements
 mod Stores
 mod StoredRows
 mod StoredSections
+mod TransformedColumns
+mod TransformedStores
 mod NamedValues
 mod PositionTuples

@@ -4,6 +4,7 @@ pub mod Arms
 pub mod Printing
 pub mod RowStores
 pub mod SectionStores
+pub mod TransformedValues
 pub mod WhereConstruct
 pub mod InitialState
 pub mod LoopEntry

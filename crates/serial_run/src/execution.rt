@@ -17,6 +17,7 @@ use crate::known_steps::{known_step, known_steps};
 use crate::loop_entry::loop_values;
 use crate::print::run_print;
 use crate::section_assignments::run_assign_section;
+use crate::transformations::run_transform;
 use crate::where_construct::run_where;
 use array_meaning::Sequence;
 use resolved_program::{Action, Arm, Statement, Term};
@@ -71,6 +72,7 @@ fn run(s: &mut State, stmt: &Statement) -> Result<Completion, AllocError>
         Action::AssignSection(array, subscripts, right) => run_assign_section(
             s, line, *array, subscripts, right,
         ),
+        Action::Transform(target, source, how) => run_transform(s, line, target, source, how),
         Action::If(arms, other) => match run_arms(s, arms)? {
             Some(completion) => Ok(completion),
             None => run_block(s, other),

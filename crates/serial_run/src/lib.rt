@@ -24,6 +24,8 @@ mod row_stores;
 mod section_assignments;
 mod section_stores;
 mod serial;
+mod transformations;
+mod transformed_columns;
 mod where_construct;
 
 pub use completion::Completion;

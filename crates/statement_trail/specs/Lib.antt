@@ -1,5 +1,6 @@
 pub mod Anchors
 pub mod NestParts
+pub mod TransformedElements
 pub mod Trail
 pub use Rattle.nest_syntax.specs.NestKinds
 pub use Rattle.nest_syntax.specs.ClosedTerms

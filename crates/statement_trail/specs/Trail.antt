@@ -1,7 +1,7 @@
 -- Of the claim.
 -- The trail of a run: the parts of array statements and of nests, and the REDISTRIBUTEs, that are reached, in order, each with the scalars at that
 -- moment and with what is evaluated once for it. It is told beside the meaning, which doesn't know of it.
-use Rattle.std.specs.Prelude.{ℕ, zero, suc, ◌+◌, List, [], ◌∷◌, ◌++◌, ℤ, ◌+ℤ◌, Bool, ◌==◌, if◌then◌else◌, is_some, Option, Some, None, unwrap_or, Result, Ok, Err}
+use Rattle.std.specs.Prelude.{ℕ, zero, suc, ◌+◌, List, [], ◌∷◌, ◌++◌, ℤ, ◌+ℤ◌, Bool, false, ◌==◌, if◌then◌else◌, is_some, Option, Some, None, unwrap_or, Result, Ok, Err}
 use Rattle.hpf_base.specs.ElementOrder.{product}
 use Rattle.op_tables.specs.declared.op.Op.{Op}
 use Rattle.op_tables.specs.Operators.{wrapped}
@@ -9,8 +9,8 @@ use Rattle.nest_syntax.specs.MainProgram.{MainProgram}
 use Rattle.nest_syntax.specs.Statement as syntax
 use Rattle.nest_syntax.specs.Entry.{Entry}
 use Rattle.nest_syntax.specs.Entries.{entries}
-use Rattle.nest_syntax.specs.Terms.{Term, Element, Section, Apply, Reduce, Terms, NoTerm, More, SectionSubscripts, NoSubscript, Subscript, Triplet, Control}
-use Rattle.nest_syntax.specs.Statements.{SectionAssignment, ElementAssignment, Item, Text, Value, Elements, Nest, Block, Done, Then, Statement, AssignScalar, AssignElement, AssignSection, If, Do, Where, Forall, Print, Redistribute, Mark, Unmarked, Outermost, Arms, NoArm, Arm}
+use Rattle.nest_syntax.specs.Terms.{Term, Number, Element, Section, Apply, Reduce, Terms, NoTerm, More, SectionSubscripts, NoSubscript, Subscript, Triplet, Control}
+use Rattle.nest_syntax.specs.Statements.{SectionAssignment, ElementAssignment, WholeArray, Transformation, CircularShift, Transposition, Item, Text, Value, Elements, Nest, Block, Done, Then, Statement, AssignScalar, AssignElement, AssignSection, Transform, If, Do, Where, Forall, Print, Redistribute, Mark, Unmarked, Outermost, Arms, NoArm, Arm}
 use Rattle.nest_syntax.specs.Faults.{Cause, ◌>>=◌}
 use Rattle.nest_syntax.specs.State.{State, set_scalar, place_in}
 use Rattle.nest_syntax.specs.Runs.{Completion, Normal, Cycled, Run, normal, one_step}
@@ -21,11 +21,13 @@ use Rattle.nest_syntax.specs.Elementals.{Elemental, sections, own_extents, own_s
 use Rattle.nest_syntax.specs.Expressions.{value, values, elemental, selections, index_values, all_index_values}
 use Rattle.nest_syntax.specs.ArrayAssignments.{Mask, assign_where, assign_all_where, mask_of, negated_mask}
 use Rattle.nest_syntax.specs.Forall.{index_extents, all_subscripts, check_limits, check_one_to_one, mask_over, assign_forall}
+use Rattle.nest_syntax.specs.Transformations.{has_shape, shift_of}
 use Rattle.nest_syntax.specs.Iterations.{values_of, iteration_count, in_turns}
 use Rattle.nest_syntax.specs.NestEntry.{entered}
 use Rattle.nest_syntax.specs.Execution.{condition, item_bytes, run, run_block}
 use Rattle.nest_syntax.specs.Resolution.{resolved_block, initial_state}
 use Rattle.statement_trail.specs.Anchors.{AnchorText, forall_anchor, where_anchor}
+use Rattle.statement_trail.specs.TransformedElements.{axes_of, indices_from, source_element, turn_of}
 use Rattle.statement_trail.specs.NestParts.{EnteredNest, NestPart, ScalarPart, ElementPart, ConditionPart, has_statement, conditions_in, conditions_by, in_trip, indices_after, indices_by, entered_nest}
 use Rattle.nest_syntax.specs.Asked.{Asked, guard_asked, tested_asked}
 
@@ -35,7 +37,8 @@ pub data Event : Type 0 where
   -- the mask of a WHERE, with what its copy lies beside, and the argument of a reduction, each with the extents of its space
   WhereMask : (beside : Option AnchorText) → List ℕ → Elemental → Event
   Reduced : Op → List ℕ → Elemental → Event
-  -- the mask of a FORALL, and one of its assignments, each with what the mask's copy lies beside and with the values of the indices
+  -- the mask of a FORALL, and one of its assignments or what a circular shift or a transpose is as one, each with what the mask's copy lies beside
+  -- and with the values of the indices
   ForallMask : (beside : Option AnchorText) → List Sequence → Term → Event
   ElementsAssigned : (masked : Bool) → (beside : Option AnchorText) → List Sequence → (array : ℕ) → Terms → Term → Event
   -- a part of a nest, at the iterations at which these stored conditions are as asked for
@@ -121,6 +124,17 @@ section_trail mask_extents beside line a subs right s =
     elemental_trail line s right ++ after_value (elemental [] s right) (λ x.
     let ns = unwrap_or mask_extents (extents ds) in
     after_value (space_size ns (ds ∷ sections x)) (λ n. reached line s (SectionAssigned (is_some mask_extents) beside ns a ds x))))
+
+-- a circular shift or a transpose is one part, that of its assignment of elements
+abbrev pub shift_trail : ℕ → State → Transformation → Trail
+shift_trail line s (CircularShift by) = value_trail line s by
+shift_trail line s Transposition = []
+
+abbrev pub transform_trail : WholeArray → WholeArray → Transformation → ℕ → State → Trail
+transform_trail x y how line s =
+    shift_trail line s how ++ after_value (shift_of s how) (λ k.
+    if has_shape x y how then reached line s (ElementsAssigned false None (axes_of x) x.array (indices_from 0 x.dims) (source_element x y how (Number (turn_of x k))))
+    else [])
 
 abbrev pub where_trail : List ℕ → Mask → Option AnchorText → List SectionAssignment → State → Trail
 where_trail ns mask beside [] s = []
@@ -219,6 +233,7 @@ abbrev mutual
   trail (AssignScalar k right) line s = value_trail line s right
   trail (AssignElement a ts right) line s = values_trail line s ts ++ after_value (values [] s ts >>= place_in s a) (λ k. value_trail line s right)
   trail (AssignSection a subs right) line s = section_trail None None line a subs right s
+  trail (Transform x y how) line s = transform_trail x y how line s
   trail (If arms other) line s = arms_trail arms (block_trail other) s
   trail (Do mark loop body) line s =
       control_trail line s loop.control

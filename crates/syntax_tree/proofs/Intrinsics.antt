@@ -28,7 +28,7 @@ is : {A B : Type 0} {a : A} {b : B} → (a ≡ a) × (b ≡ b)
 is = (refl, refl)
 
 all_named : AreNamed intrinsic_words intrinsics
-all_named = (is, (is, (is, (is, (is, (is, (is, (is, (is, (is, (is, (is, (is, (is, (is, (is, (is, (tt, (is, (is, (is, (is, (is, tt)))))))))))))))))))))))
+all_named = (is, (is, (is, (is, (is, (is, (is, (is, (is, (is, (is, (is, (is, (is, (is, (is, (is, (is, (tt, (is, (is, (is, (is, (is, (is, (is, tt))))))))))))))))))))))))))
 
 -- the word of a code
 word_at : (words : List (List ℕ)) (word : List ℕ) (code : ℕ) → code_in words word ≡ Some code → slice_index_or words code [] ≡ word

@@ -125,10 +125,10 @@ right_place o = level o + right_more (side o)
 -- the intrinsic procedures, in the order of their words' codes; PROCESSORS_SHAPE is left out
 abbrev pub intrinsics : List (Option Op)
 intrinsics =
-    Some op.Abs ∷ Some op.All ∷ Some op.Any ∷ Some op.Count ∷ Some op.Dim ∷ Some op.BitAnd ∷ Some op.BitXor ∷
-    Some op.BitOr ∷ Some op.LBound ∷ Some op.Max ∷ Some op.MaxVal ∷ Some op.Min ∷ Some op.MinVal ∷ Some op.Mod ∷
-    Some op.Modulo ∷ Some op.BitNot ∷ Some op.Nodes ∷ None ∷ Some op.Product ∷ Some op.Sign ∷ Some op.Size ∷
-    Some op.Sum ∷ Some op.UBound ∷ []
+    Some op.Abs ∷ Some op.All ∷ Some op.Any ∷ Some op.Count ∷ Some op.CShift ∷ Some op.Dim ∷ Some op.BitAnd ∷
+    Some op.BitXor ∷ Some op.BitOr ∷ Some op.LBound ∷ Some op.Max ∷ Some op.MaxVal ∷ Some op.Min ∷
+    Some op.MinVal ∷ Some op.Mod ∷ Some op.Modulo ∷ Some op.BitNot ∷ Some op.Nodes ∷ None ∷ Some op.Product ∷
+    Some op.Sign ∷ Some op.Size ∷ Some op.Sum ∷ Some op.SumPrefix ∷ Some op.Transpose ∷ Some op.UBound ∷ []
 
 abbrev pub if_any : {A : Type 0} → Option (Option A) → Option A
 if_any None = None
@@ -148,6 +148,7 @@ intrinsic_word op.Abs = codes "ABS"
 intrinsic_word op.All = codes "ALL"
 intrinsic_word op.Any = codes "ANY"
 intrinsic_word op.Count = codes "COUNT"
+intrinsic_word op.CShift = codes "CSHIFT"
 intrinsic_word op.Dim = codes "DIM"
 intrinsic_word op.BitAnd = codes "IAND"
 intrinsic_word op.BitXor = codes "IEOR"
@@ -165,5 +166,7 @@ intrinsic_word op.Product = codes "PRODUCT"
 intrinsic_word op.Sign = codes "SIGN"
 intrinsic_word op.Size = codes "SIZE"
 intrinsic_word op.Sum = codes "SUM"
+intrinsic_word op.SumPrefix = codes "SUM_PREFIX"
+intrinsic_word op.Transpose = codes "TRANSPOSE"
 intrinsic_word op.UBound = codes "UBOUND"
 intrinsic_word o = []

@@ -23,7 +23,9 @@ pub use decl::{Bound, ConstDef, Decl, DeclKind, EndForm, Entity, IntegerDecl, Tr
 pub use directive::{AlignSpec, Directive, DistSpec, Format, Source, Target};
 pub use expr::{Expr, Ref, Subscript};
 pub use names::NameList;
-pub use op_tables::{DivZero, Op, apply, is_inquiry, is_processor_count, is_reduction, takes};
+pub use op_tables::{
+    DivZero, Op, apply, is_inquiry, is_processor_count, is_reduction, is_transformational, takes,
+};
 pub use operators::{binary, intrinsic, left_place, level, right_place, unary};
 pub use sign::{Sign, sign_of};
 pub use stmt::{Arm, DoLoop, Header, Item, Mark, StatementKind, Stmt};

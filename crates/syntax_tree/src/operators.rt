@@ -83,11 +83,12 @@ pub fn right_place(op: Op) -> u8
 }
 
 /// The intrinsic procedures, in the order of their words' codes.
-static INTRINSICS: [Option<Op>; 23] = [
+static INTRINSICS: [Option<Op>; 26] = [
     Some(Op::Abs),
     Some(Op::All),
     Some(Op::Any),
     Some(Op::Count),
+    Some(Op::CShift),
     Some(Op::Dim),
     Some(Op::BitAnd),
     Some(Op::BitXor),
@@ -106,6 +107,8 @@ static INTRINSICS: [Option<Op>; 23] = [
     Some(Op::Sign),
     Some(Op::Size),
     Some(Op::Sum),
+    Some(Op::SumPrefix),
+    Some(Op::Transpose),
     Some(Op::UBound),
 ];
 

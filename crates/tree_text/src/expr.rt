@@ -129,6 +129,9 @@ fn intrinsic_spelling(op: Op) -> &'static str {
         Op::LBound => "LBOUND",
         Op::UBound => "UBOUND",
         Op::Nodes => "NUMBER_OF_PROCESSORS",
+        Op::SumPrefix => "SUM_PREFIX",
+        Op::CShift => "CSHIFT",
+        Op::Transpose => "TRANSPOSE",
         _ => "?",
     }
 }

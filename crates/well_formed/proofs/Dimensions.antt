@@ -1,18 +1,21 @@
 -- The arrays that a program declares: their dimensions, by their names and by their places.
-use Rattle.std.proofs.Common.{◌≡◌, ℕ, zero, suc, ◌+◌, ◌≤◌, Bool, true, false, true≢false, cond, bytes_eq, List, [], ◌∷◌, length, map, position, nat_lt, Option, Some, None, refl, sym, ap, subst, ◌∙◌, arith}
+use Rattle.std.proofs.Common.{◌≡◌, ℕ, zero, suc, ◌+◌, ◌≤◌, Bool, true, false, true≢false, cond, bytes_eq, List, [], ◌∷◌, length, map, position, nat_lt, unsigned_abs, All, Option, Some, None, refl, sym, ap, subst, ◌∙◌, arith}
 use Rattle.std.specs.Bool.{⊤}
 use Rattle.std.specs.Prelude.{ℤ, ◌||◌, option_map, option_and_then, slice_get, unwrap_or, if◌then◌else◌}
 use Rattle.std.specs.List.{AllByRecursion, list_all, list_any, position_from}
 use Rattle.std.proofs.lemmas.Bool.Decides.{nat_tests}
 use Rattle.std.proofs.lemmas.Iterator.Adapters.{position_from-zero}
-use Rattle.hpf_base.specs.declared.limits.TheConstants.{MAX_RANK}
+use Rattle.std.proofs.lemmas.List.Elements.{All-cons, All-nil}
+use Rattle.hpf_base.specs.declared.limits.TheConstants.{MAX_BOUND, MAX_ELEMENTS, MAX_RANK}
+use Rattle.declarations.specs.declared.limits.TheConstants.{MAX_TOTAL_ELEMENTS}
 use Rattle.syntax_tree.specs.Directive.{Bound}
 use Rattle.syntax_tree.specs.MainProgram.{Declaration}
 use Rattle.expression_rules.specs.declared.dims.Dim.{Dim}
+use Rattle.expression_rules.specs.Dims.{AreDims, IsDim, elements}
 use Rattle.expression_rules.specs.declared.symbols.Symbol.{Symbol}
 use Rattle.expression_rules.specs.declared.symbols.Symbol.TheVariants.{Array}
 use Rattle.expression_rules.specs.Symbols.{Name, SymbolTable, all_elements, find, is_array}
-use Rattle.declarations.specs.Declarations.{dims, is_bound_too_far, is_past_limits, is_too_large, items, known_dims, lower_of, number, symbol_table, with_dim}
+use Rattle.declarations.specs.Declarations.{dims, is_bound_too_far, is_past_limits, is_too_far, is_too_large, items, known_dims, lower_of, number, symbol_table, with_dim}
 use Rattle.name_table.specs.Entries.{entry, declared_as, what_is}
 use Rattle.name_table.specs.KnownSymbols.{is_known}
 use Rattle.name_table.specs.declared.names.Entry.{Entry}
@@ -23,37 +26,47 @@ use Rattle.lowering.specs.Ranks.{declared_shapes}
 use Rattle.name_table.proofs.Tests.{both, neither, none_some, some_same}
 use Rattle.name_table.proofs.TableItems.{AllHold, all_hold}
 
--- ---- known dimensions: as many as the rank, and 7 at most
+-- ---- known dimensions: as many as the rank, 7 at most, and within the limits
 
-dim_more : (l u : Option ℤ) (o : Option (List Dim)) (n : ℕ) (ds : List Dim) → ((es : List Dim) → o ≡ Some es → n ≡ length es) → with_dim l u o ≡ Some ds → suc n ≡ length ds
-dim_more None u o n ds rest is = absurd cc
-dim_more (Some l) None o n ds rest is = absurd cc
-dim_more (Some l) (Some u) None n ds rest is = absurd cc
-dim_more (Some l) (Some u) (Some es) n ds rest is =
-    let same : record { lower = l; upper = u } ∷ es ≡ ds = some_same _ _ is in ap suc (rest es refl) ∙ ap length same
+at_most : (limit k : ℕ) → nat_lt limit k ≡ false → k ≤ limit
+at_most limit k h = grind (arith, nat_tests)
 
-dims_counted : (t : SymbolTable) (bs : List Bound) (ds : List Dim) → dims t bs ≡ Some ds → length bs ≡ length ds
-dims_counted t [] ds is = ap length (some_same [] ds is)
-dims_counted t (b ∷ bs) ds is = dim_more (lower_of t b) (number t b.upper) (dims t bs) (length bs) ds (λ es e. dims_counted t bs es e) is
+dim_more : (l u : Option ℤ) (o : Option (List Dim)) (n : ℕ) (ds : List Dim) → (is_too_far l || is_too_far u) ≡ false →
+    ((es : List Dim) → o ≡ Some es → (n ≡ length es) × All IsDim es) → with_dim l u o ≡ Some ds → (suc n ≡ length ds) × All IsDim ds
+dim_more None u o n ds near rest is = absurd cc
+dim_more (Some l) None o n ds near rest is = absurd cc
+dim_more (Some l) (Some u) None n ds near rest is = absurd cc
+dim_more (Some l) (Some u) (Some es) n ds near rest is =
+    let same : record { lower = l; upper = u } ∷ es ≡ ds = some_same _ _ is in
+    let two = neither (is_too_far (Some l)) (is_too_far (Some u)) near in
+    let own : IsDim (record { lower = l; upper = u }) = record { lower = at_most MAX_BOUND (unsigned_abs l) two.0; upper = at_most MAX_BOUND (unsigned_abs u) two.1 } in
+    let more = rest es refl in
+    (ap suc more.0 ∙ ap length same, subst (All IsDim) same (All-cons IsDim (record { lower = l; upper = u }) es own more.1))
+
+dims_within : (t : SymbolTable) (bs : List Bound) (ds : List Dim) → list_any (is_bound_too_far t) bs ≡ false → dims t bs ≡ Some ds →
+    (length bs ≡ length ds) × All IsDim ds
+dims_within t [] ds near is = let same = some_same [] ds is in (ap length same, subst (All IsDim) same (All-nil IsDim))
+dims_within t (b ∷ bs) ds near is =
+    let two = neither (is_bound_too_far t b) (list_any (is_bound_too_far t) bs) near in
+    dim_more (lower_of t b) (number t b.upper) (dims t bs) (length bs) ds two.0 (λ es e. dims_within t bs es two.1 e) is
 
 abbrev pub IsSized : Symbol → Type 0
-IsSized (Array r (Some ds) n) = (r ≡ length ds) × (length ds ≤ MAX_RANK)
+IsSized (Array r (Some ds) n) = (r ≡ length ds) × (length ds ≤ MAX_RANK) × AreDims ds
 IsSized s = ⊤
 
 array_sized : (t : SymbolTable) (bs : List Bound) (n : Option ℤ) → IsSized (Array (length bs) (known_dims t bs) n)
 array_sized t bs n = by (is_past_limits t bs) refl (dims t bs) refl
   where
-    at_most : (k : ℕ) → nat_lt MAX_RANK k ≡ false → k ≤ MAX_RANK
-    at_most k h = grind (arith, nat_tests)
-
     by : (past : Bool) → is_past_limits t bs ≡ past → (o : Option (List Dim)) → dims t bs ≡ o → IsSized (Array (length bs) (if past then None else o) n)
     by true past o is = tt
     by false past None is = tt
     by false past (Some ds) is =
-        let same = dims_counted t bs ds is in
-        let ranks = neither (nat_lt MAX_RANK (length bs)) (list_any (is_bound_too_far t) bs)
-        (neither (nat_lt MAX_RANK (length bs) || list_any (is_bound_too_far t) bs) (is_too_large (all_elements t) (dims t bs)) past).0 in
-        (same, subst (λ k. k ≤ MAX_RANK) same (at_most (length bs) ranks.0))
+        let limits = neither (nat_lt MAX_RANK (length bs) || list_any (is_bound_too_far t) bs) (is_too_large (all_elements t) (dims t bs)) past in
+        let bounds = neither (nat_lt MAX_RANK (length bs)) (list_any (is_bound_too_far t) bs) limits.0 in
+        let sizes = neither (nat_lt MAX_ELEMENTS (elements ds)) (nat_lt MAX_TOTAL_ELEMENTS (all_elements t + elements ds))
+        (sym (ap (is_too_large (all_elements t)) is) ∙ limits.1) in
+        let own = dims_within t bs ds bounds.1 is in
+        (own.0, subst (λ k. k ≤ MAX_RANK) own.0 (at_most MAX_RANK (length bs) bounds.0), record { each = own.1; size = at_most MAX_ELEMENTS (elements ds) sizes.0 })
 
 other_sized : (s : Symbol) → is_array s ≡ false → IsSized s
 other_sized (Array r ds n) h = absurd (true≢false h)
@@ -62,7 +75,7 @@ other_sized s h = tt
 -- where all is known, each array has its dimensions
 abbrev pub IsFull : Symbol → Type 0
 IsFull (Array r None n) = ⊥
-IsFull (Array r (Some ds) n) = (r ≡ length ds) × (length ds ≤ MAX_RANK)
+IsFull (Array r (Some ds) n) = (r ≡ length ds) × (length ds ≤ MAX_RANK) × AreDims ds
 IsFull s = ⊤
 
 abbrev pub AllFull : SymbolTable → Type 0

@@ -65,24 +65,28 @@ starts names = record {
   arrays = length-map names (λ (e : Entry). initial_array e.what);
 }
 
+-- no array has more than 7 dimensions, and each reference has a subscript for each
+abbrev KeepsAllRanks : MainProgram → Type 0
+KeepsAllRanks p = AreFewDims (declared_shapes (initial_state (entries p))) × BlockKeepsRanks (declared_shapes (initial_state (entries p))) (resolved_block (entries p) p.body)
+
 module _ (p : MainProgram) (room : ℕ) (moves : ℕ → List NewMapping) (table : ArrayTable) (layouts : List Layout) where
-  pub lowered : IsTable (initial_state (entries p)) table → block_copies (length (entries p)) (resolved_block (entries p) p.body) ≤ room → length layouts ≡ length (entries p) + room →
+  pub lowered : KeepsAllRanks p → IsTable (initial_state (entries p)) table → block_copies (length (entries p)) (resolved_block (entries p) p.body) ≤ room → length layouts ≡ length (entries p) + room →
       HasNoBreach p → NoBreach (Among (body_breaches (entries p) p.body)) → BlockHasForms (resolved_block (entries p) p.body) → ProgramFits p →
       MachineEnds (length (entries p)) table (opening (length (entries p)) room moves (resolved_block (entries p) p.body) (initial_state (entries p)) layouts)
       (run_block (resolved_block (entries p) p.body) (initial_state (entries p)))
-  lowered is-table roomy laid rules bodies forms fit =
+  lowered ranks is-table roomy laid rules bodies forms fit =
       program-ends table (length (entries p)) room moves (resolved_block (entries p) p.body) (initial_state (entries p)) (starts (entries p)) is-table roomy fit.1
       (initial_fits (entries p) fit.0) layouts laid
-      (well_formed p rules.names bodies) forms
+      (well_formed p rules.names bodies) forms ranks.1
 
-  pub trail_lowered : IsTable (initial_state (entries p)) table → block_copies (length (entries p)) (resolved_block (entries p) p.body) ≤ room → length layouts ≡ length (entries p) + room →
+  pub trail_lowered : KeepsAllRanks p → IsTable (initial_state (entries p)) table → block_copies (length (entries p)) (resolved_block (entries p) p.body) ≤ room → length layouts ≡ length (entries p) + room →
       HasNoBreach p → NoBreach (Among (body_breaches (entries p) p.body)) → BlockHasForms (resolved_block (entries p) p.body) → ProgramFits p →
       MachinePasses (length (entries p)) table moves (opening (length (entries p)) room moves (resolved_block (entries p) p.body) (initial_state (entries p)) layouts)
       (run_block (resolved_block (entries p) p.body) (initial_state (entries p))) (serial_trail p)
-  trail_lowered is-table roomy laid rules bodies forms fit =
+  trail_lowered ranks is-table roomy laid rules bodies forms fit =
       program-passes table (length (entries p)) room moves (resolved_block (entries p) p.body) (initial_state (entries p)) (starts (entries p)) is-table roomy fit.1
       (initial_fits (entries p) fit.0) layouts laid
-      (well_formed p rules.names bodies) forms
+      (well_formed p rules.names bodies) forms ranks.1
 
 pub valid : (count : ℕ) (p : MainProgram) (shapes : List Shape) (table : ArrayTable) (moves : ℕ → List NewMapping) → length shapes ≤ length (entries p) →
     ((layouts : List Layout) → AreOwned count layouts → (anchor : Option Anchor) (extents : List ℕ) → IsDealt count (table.copies layouts anchor extents)) →
@@ -91,9 +95,6 @@ pub valid : (count : ℕ) (p : MainProgram) (shapes : List Shape) (table : Array
     IsValidCode (meaning_of table) count shapes (program_code (length (entries p)) moves (resolved_block (entries p) p.body))
 valid count p shapes table moves few dealt same moving rules bodies =
     code-valid count (length (entries p)) shapes table moves few dealt same moving (resolved_block (entries p) p.body) (well_formed p rules.names bodies)
-
-abbrev KeepsAllRanks : MainProgram → Type 0
-KeepsAllRanks p = AreFewDims (declared_shapes (initial_state (entries p))) × BlockKeepsRanks (declared_shapes (initial_state (entries p))) (resolved_block (entries p) p.body)
 
 -- where all that is declared is known
 pub ranked : (p : MainProgram) → AllAreKnown p → HasNoBreach p → KeepsAllRanks p

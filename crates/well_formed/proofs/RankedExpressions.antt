@@ -20,9 +20,10 @@ use Rattle.name_table.specs.declared.names.Entry.{Entry}
 use Rattle.name_table.specs.declared.names.What.{What}
 use Rattle.name_table.specs.declared.names.What.TheVariants as what
 use Rattle.array_meaning.specs.Terms.{Element, Section, Apply, Reduce, Terms, NoTerm, More, list_of, SectionSubscripts}
-use Rattle.array_meaning.specs.Resolution.{alone, dims_of, first_named, first_term, initial_array, inquiry, is_element, no_dim, place_of, section_subscript, section_subscripts, term_of, term_or, terms_of, whole}
+use Rattle.array_meaning.specs.Resolution.{alone, dims_of, first_named, first_term, initial_array, inquiry, is_element, no_dim, place_of, section_subscript, section_subscripts, term_of, term_or, terms_of}
 use Rattle.code_meaning.specs.Parallel.{shape_of}
 use Rattle.lowering.specs.Ranks.{AreRanked, AreRankedSubscripts, IsRanked, subscript_count}
+use Rattle.lowering.proofs.Wholes.{whole-counted, whole-ranked}
 use Rattle.name_table.proofs.Tests.{HasValue, both, no_value, none_some, some_same}
 use Rattle.name_table.proofs.TypedOperands.{conforming_values, elemental_values, typed_value}
 use Rattle.well_formed.proofs.Expressions.{either}
@@ -57,10 +58,6 @@ called_values t o ps ss other h = by (takes o (count_of ps)) (is_processor_count
 
 -- ---- counts
 
-whole_counted : (ds : List Dim) → subscript_count (whole ds) ≡ length ds
-whole_counted [] = refl
-whole_counted (d ∷ ds) = let more = whole_counted ds in omega (arith, more)
-
 below_from : {A : Type 0} (test : A → Bool) (i k : ℕ) (xs : List A) → position_from test i xs ≡ Some k → k < i + length xs
 below_from test i k [] is = absurd (none_some k is)
 below_from test i k (x ∷ xs) is = by (test x) is (below_from test (i + 1) k xs)
@@ -83,14 +80,10 @@ module _ (t : SymbolTable) (full : (x : Name) (s : Symbol) → find x t ≡ Some
   abbrev Rank : Name → ℕ
   Rank x = length (shape_of (shapes_in (map entry t)) (place_of (map entry t) x))
 
-  whole_ranked : (ds : List Dim) → AreRankedSubscripts shapes (length indices) (whole ds)
-  whole_ranked [] = tt
-  whole_ranked (d ∷ ds) = ((tt, tt, tt), whole_ranked ds)
-
   alone_ranked : (x : Name) (o : Option ℕ) (w : Option What) → position (bytes_eq x) indices ≡ o → declared_as names x ≡ w →
       IsRanked shapes (length indices) (alone o (place_of names x) w)
   alone_ranked x (Some k) w at is = below (bytes_eq x) k indices at
-  alone_ranked x None (Some (what.Array ds v)) at is = (whole_counted ds ∙ ap length (sym (shape_is names x (what.Array ds v) is)), whole_ranked ds)
+  alone_ranked x None (Some (what.Array ds v)) at is = (whole-counted ds ∙ ap length (sym (shape_is names x (what.Array ds v) is)), whole-ranked shapes (length indices) ds)
   alone_ranked x None w at is = tt
 
   -- a reference with subscripts has one for each dimension

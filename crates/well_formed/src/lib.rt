@@ -13,6 +13,8 @@
 //!   signs, `+`, `-` and `*`.
 //! - An array whose dimensions are known has as many as its rank, and 7 at most; in a program that breaks no rule all are known. An
 //!   expression that has a type and a rank has a subscript for each of them in every reference.
+//! - Where an assignment by itself is a circular shift or a transpose, its right side has no type; both arrays have the same rank and the
+//!   dimensions that are declared, within the limits. Any other right side has a type, and is no call of these two.
 //!
 //! *Proved:* A program that breaks no rule is one for which the laws of `lowering` hold, with its nests of INDEPENDENT
 //! loops taken apart: `programs_are_well_formed`, `accepted_programs_lowered`, `accepted_trails_lowered`,

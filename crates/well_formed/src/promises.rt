@@ -46,7 +46,9 @@ pub fn accepted_programs_lowered()
         → MachineEnds (length (entries p)) table
         (opening (length (entries p)) room moves (resolved_block (entries p) p.body) (initial_state (entries p)) layouts)
         (run_block (resolved_block (entries p) p.body) (initial_state (entries p))) }
-{}
+{
+    programs_keep_ranks();
+}
 
 /// It passes, on its way to that end, the trail of the program, entry by entry, and nothing else.
 pub fn accepted_trails_lowered()
@@ -57,7 +59,9 @@ pub fn accepted_trails_lowered()
         → MachinePasses (length (entries p)) table moves
         (opening (length (entries p)) room moves (resolved_block (entries p) p.body) (initial_state (entries p)) layouts)
         (run_block (resolved_block (entries p) p.body) (initial_state (entries p))) (serial_trail p) }
-{}
+{
+    programs_keep_ranks();
+}
 
 /// Every instruction of its code is one that so many nodes can run, where the redistribution of each line is and layouts that compare as the same are one.
 pub fn accepted_code_is_valid()

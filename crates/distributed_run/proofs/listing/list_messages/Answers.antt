@@ -17,6 +17,9 @@ run_machine-requires c =
     ∙ (λ i. opening_machine (code_of (arc_value c.in_ok-compiled.compiled.text)) (c.deref.ensures.value i) c.in_ok-compiled.compiled.owners.layouts (c.deref-2.ensures.value i))
     ∙ c.in_ok-compiled.ensures.opening
 
+pub invariant_of-run_machine-clause-known : goal.invariant_of-run_machine-clause-known
+invariant_of-run_machine-clause-known c = c.all_are_known.ensures (main_program c.args.accepted.now.program.tree)
+
 pub end_of-requires : goal.end_of-requires
 end_of-requires c =
     let begins : c.in_ok-machine.machine ≡ grid_opening c.args.accepted.now.grid.now (main_program c.args.accepted.now.program.tree) =

@@ -13,7 +13,7 @@ use Rattle.distributed_run.proofs.machine_run.run_machine.Goals as goal
 pub steps-init : goal.steps-init
 steps-init c =
     let a = c.args.program.now.accepted.now in
-    let end = ends a.grid.now (main_program a.program.tree) a.keeps.anywhere c.args.program.now.numbers in
+    let end = ends a.grid.now (main_program a.program.tree) a.keeps.anywhere c.args.program.now.numbers c.args.program.now.known in
     record {
       listed = listed-none a.program.names c.args.machine.now c.args.text.now.items;
       kept = c.new-kept.ensures c.args.machine.now.code a.program.names;
@@ -23,14 +23,14 @@ steps-init c =
 pub steps-smaller : goal.steps-smaller
 steps-smaller c =
     let a = c.args.program.now.accepted.now in
-    let k = (ends a.grid.now (main_program a.program.tree) a.keeps.anywhere c.args.program.now.numbers).0 in
+    let k = (ends a.grid.now (main_program a.program.tree) a.keeps.anywhere c.args.program.now.numbers c.args.program.now.known).0 in
     subst (λ x. left text_meaning k x < left text_meaning k c.steps.machine) (sym c.in_ok-step.ensures.ok)
     (left-falls text_meaning k c.steps.machine (c.is_running.ensures.0 c.steps-test.true) c.steps.invariant.ends)
 
 pub steps-preserved : goal.steps-preserved
 steps-preserved c =
     let a = c.args.program.now.accepted.now in
-    let k = (ends a.grid.now (main_program a.program.tree) a.keeps.anywhere c.args.program.now.numbers).0 in
+    let k = (ends a.grid.now (main_program a.program.tree) a.keeps.anywhere c.args.program.now.numbers c.args.program.now.known).0 in
     record {
       listed = listed-more a.program.names c.args.machine.now c.steps.machine c.step.new.self c.args.text.now.items c.steps.text.items c.push_next.new.text.items
           c.steps.invariant.listed c.in_ok-step.ensures.ok c.in_ok-push_next.ensures.lines;

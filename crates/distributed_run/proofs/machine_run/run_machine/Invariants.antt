@@ -12,8 +12,8 @@ abbrev pub invariant-steps : goal.invariant-steps
 invariant-steps l = record {
   listed : IsListed l.program.accepted.now.program.names l.initial.machine l.machine l.initial.text.items l.text.items;
   kept : AreKeptLines l.machine.code l.program.accepted.now.program.names l.kept;
-  ends : IsOver (steps text_meaning (ends l.program.accepted.now.grid.now (main_program l.program.accepted.now.program.tree) l.program.accepted.now.keeps.anywhere l.program.numbers).0 l.machine).control.status;
+  ends : IsOver (steps text_meaning (ends l.program.accepted.now.grid.now (main_program l.program.accepted.now.program.tree) l.program.accepted.now.keeps.anywhere l.program.numbers l.program.known).0 l.machine).control.status;
 }
 
 abbrev pub decreases-steps : goal.decreases-steps
-decreases-steps l = left text_meaning (ends l.program.accepted.now.grid.now (main_program l.program.accepted.now.program.tree) l.program.accepted.now.keeps.anywhere l.program.numbers).0 l.machine
+decreases-steps l = left text_meaning (ends l.program.accepted.now.grid.now (main_program l.program.accepted.now.program.tree) l.program.accepted.now.keeps.anywhere l.program.numbers l.program.known).0 l.machine

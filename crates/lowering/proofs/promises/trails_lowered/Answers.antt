@@ -2,4 +2,4 @@ use Rattle.lowering.proofs.Programs.{program-passes}
 use Rattle.lowering.proofs.promises.trails_lowered.Goals as goal
 
 pub returns : goal.returns
-returns c = λ n room table moves body s layouts is tabled roomy laid ok forms fit fits. program-passes table n room moves body s is tabled roomy fit fits layouts laid ok forms
+returns c = λ n room table moves body s layouts is tabled roomy laid ok forms ranked fit fits. program-passes table n room moves body s is tabled roomy fit fits layouts laid ok forms ranked

@@ -6,14 +6,13 @@ use Rattle.array_meaning.specs.Resolution.{initial_scalar, initial_state, resolv
 use Rattle.well_formed.specs.Lowered.{opening}
 use Rattle.lowered_expressions.specs.Passed.{passed}
 use Rattle.statement_trail.specs.Trail.{serial_trail}
-use Rattle.well_formed.proofs.Programs.{trail_lowered}
 use Rattle.messages_lowered.proofs.TrailPlaces.{block-places}
 use Rattle.messages_lowered.proofs.SameLines.{text-same}
 use Rattle.messages_lowered.proofs.promises.accepted_texts_lowered.Goals as goal
 
 pub returns : goal.returns
 returns c = λ p room table moves nodes names shapes layouts starts is-table roomy laid lie rules bodies forms fit.
-    let t = trail_lowered p room moves table layouts is-table roomy laid rules bodies forms fit in
+    let t = c.accepted_trails_lowered.ensures p room moves table layouts is-table roomy laid rules bodies forms fit in
     let n = length (entries p) in
     let body = resolved_block (entries p) p.body in
     let m = opening n room moves body (initial_state (entries p)) layouts in (

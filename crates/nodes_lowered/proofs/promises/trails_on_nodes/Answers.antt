@@ -2,4 +2,4 @@ use Rattle.nodes_lowered.proofs.Runs.{trail-on-nodes}
 use Rattle.nodes_lowered.proofs.promises.trails_on_nodes.Goals as goal
 
 pub returns : goal.returns
-returns c = λ nodes p maps moves layouts some rules fit laid dealt. trail-on-nodes nodes p maps moves layouts some rules fit laid dealt
+returns c = λ nodes p maps moves layouts some rules fit laid dealt. trail-on-nodes nodes p maps moves layouts some rules fit (c.all_are_known.ensures p) laid dealt

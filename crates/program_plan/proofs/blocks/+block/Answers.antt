@@ -12,6 +12,7 @@ use Rattle.resolved_program.specs.Resolved.{block_of, statement, with_arm}
 use Rattle.program_plan.proofs.StatementForms.{forall_is, if_alone, if_else, other_count, resolved_arm, where_alone, where_else}
 use Rattle.resolved_program.proofs.Made.{arms_made, block_made, made_all, made_next}
 use Rattle.program_plan.proofs.NestLaws.{from_parts, marked_body, plain_body, with_own}
+use Rattle.program_plan.proofs.NoLoops.{no_loop}
 use Rattle.resolved_program.proofs.Rows.{arm_made, do_vec, if_vec}
 use Rattle.program_plan.proofs.blocks.+block.Goals as goal
 
@@ -114,3 +115,7 @@ loop_with-returns t c =
 pub unmarked-returns-else-stmts-eq1 : goal.unmarked-returns-else-stmts-eq1
 unmarked-returns-else-stmts-eq1 t c =
     subst (λ w. IfOk c.block.result (λ b. block_of b.items ≡ w)) (sym (other_count c.args.names.now c.args.stmts.now c.if-stmts-eq1.false).0) c.block.ensures
+
+pub unmarked_action-returns-in_default : goal.unmarked_action-returns-in_default
+unmarked_action-returns-in_default t c =
+    subst (λ w. IfOk c.action.result (λ a. statement a ≡ w)) (sym (no_loop c.args.names.now c.args.stmt.now.line c.args.stmt.now.what c.in_default.not-Do).1) c.action.ensures

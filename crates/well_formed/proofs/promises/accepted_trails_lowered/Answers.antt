@@ -2,4 +2,5 @@ use Rattle.well_formed.proofs.Programs.{trail_lowered}
 use Rattle.well_formed.proofs.promises.accepted_trails_lowered.Goals as goal
 
 pub returns : goal.returns
-returns c = trail_lowered
+returns c = λ p room moves table layouts is-table roomy laid rules bodies forms fit.
+    trail_lowered p room moves table layouts (c.programs_keep_ranks.ensures p rules) is-table roomy laid rules bodies forms fit

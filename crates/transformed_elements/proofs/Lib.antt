@@ -1,0 +1,4 @@
+pub mod Shifts
+pub mod Places
+pub mod Values
+pub mod Elements

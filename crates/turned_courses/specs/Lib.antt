@@ -1,0 +1,2 @@
+pub mod TurnedForms
+pub mod TurnedNames
