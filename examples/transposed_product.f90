@@ -1,5 +1,5 @@
-! The product of two matrices in blocks of rows. The second is transposed, so that its columns lie in blocks of rows, too, and goes round:
-! in each step a row of the first meets one column of the second, and then the columns move on by one row.
+! The product of two matrices in blocks of rows. The second is transposed, so that its columns lie in blocks of rows,
+! too, and goes round: in each step a row of the first meets one column of the second, and then the columns move on.
 PROGRAM TRANSPOSED_PRODUCT
 INTEGER, PARAMETER :: N = 6
 INTEGER :: A(N,N), B(N,N), C(N,N), COLUMNS(N,N), S(N), I, J, K, STEP
