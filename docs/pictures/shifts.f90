@@ -1,0 +1,9 @@
+INTEGER :: A(8), B(8), M(4,4), N(4,4), I, J
+!HPF$ DISTRIBUTE (BLOCK) :: A, B
+!HPF$ DISTRIBUTE (BLOCK,*) :: M, N
+FORALL (I=1:8) B(I) = I
+FORALL (I=1:4, J=1:4) N(I,J) = 10*I + J
+A = CSHIFT(B, 1)
+M = TRANSPOSE(N)
+PRINT *, A, M
+END
