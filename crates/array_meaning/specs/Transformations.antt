@@ -1,9 +1,11 @@
 -- Of the claim.
--- Circular shifts and transposes of whole arrays (Fortran 95, 13.14.25 and 13.14.114). Elements go by their places in array element order, whatever the
--- bounds of the arrays are.
-use Rattle.std.specs.Prelude.{ℕ, ◌+◌, ◌*◌, ◌/◌, ◌%◌, bytes_eq, unsigned_abs, List, [], ◌∷◌, map, reverse, slice_index_or, ℤ, pos, ◌+ℤ◌, Bool, Option, Some, Result, Ok, if◌then◌else◌}
+-- Circular shifts, transposes and prefix sums of whole arrays (Fortran 95, 13.14.25 and 13.14.114; HPF 2.0, 7.4). Elements go by their places in array
+-- element order, whatever the bounds of the arrays are.
+use Rattle.std.specs.Prelude.{ℕ, ◌+◌, ◌*◌, ◌/◌, ◌%◌, bytes_eq, unsigned_abs, List, [], ◌∷◌, map, reverse, slice_index_or, take, ℤ, pos, ◌+ℤ◌, Bool, Option, Some, Result, Ok, if◌then◌else◌}
 use Rattle.std.specs.Int.{int_rem_euclid}
-use Rattle.std.specs.List.{range_with_len}
+use Rattle.std.specs.List.{fold, range_with_len}
+use Rattle.name_table.specs.Join.TheVariants.{Sum}
+use Rattle.name_table.specs.Joins.{join, unit}
 use Rattle.name_table.specs.Dims.{extent}
 use Rattle.name_table.specs.ElementOrder.{product}
 use Rattle.array_meaning.specs.declared.faults.FaultKind.TheVariants.{Shape}
@@ -11,7 +13,7 @@ use Rattle.array_meaning.specs.declared.sections.Store.{Store}
 use Rattle.array_meaning.specs.Expressions.{value}
 use Rattle.array_meaning.specs.Faults.{Cause, ◌>>=◌, fails}
 use Rattle.array_meaning.specs.State.{State, array, store_all}
-use Rattle.array_meaning.specs.Statements.{WholeArray, Transformation, CircularShift, Transposition}
+use Rattle.array_meaning.specs.Statements.{WholeArray, Transformation, CircularShift, Transposition, PrefixSum}
 
 abbrev pub extents_of : WholeArray → List ℕ
 extents_of w = map extent w.dims
@@ -29,9 +31,13 @@ abbrev pub transposed_place : List ℕ → ℕ → ℕ
 transposed_place (m ∷ n ∷ []) t = t / m + n * (t % m)
 transposed_place ns t = t
 
-abbrev pub source_place : Transformation → ℤ → List ℕ → ℕ → ℕ
-source_place (CircularShift by) k ns t = shifted_place k ns t
-source_place Transposition k ns t = transposed_place ns t
+-- ---- values
+
+-- the value at a place of a target of these extents, by the values of the source: a prefix sum is that of the values up to the place, in 64 bits
+abbrev pub value_at : Transformation → ℤ → List ℕ → List ℤ → ℕ → ℤ
+value_at (CircularShift by) k ns values t = slice_index_or values (shifted_place k ns t) (pos 0)
+value_at Transposition k ns values t = slice_index_or values (transposed_place ns t) (pos 0)
+value_at PrefixSum k ns values t = fold (join Sum) (unit Sum) (take (t + 1) values)
 
 -- ---- the statement
 
@@ -39,16 +45,18 @@ source_place Transposition k ns t = transposed_place ns t
 abbrev pub shift_of : State → Transformation → Result ℤ Cause
 shift_of s (CircularShift by) = value [] s by
 shift_of s Transposition = Ok (pos 0)
+shift_of s PrefixSum = Ok (pos 0)
 
 -- the target has the extents of the source, for a transposition in reverse order
 abbrev pub has_shape : WholeArray → WholeArray → Transformation → Bool
 has_shape x y (CircularShift by) = bytes_eq (extents_of y) (extents_of x)
 has_shape x y Transposition = bytes_eq (reverse (extents_of y)) (extents_of x)
+has_shape x y PrefixSum = bytes_eq (extents_of y) (extents_of x)
 
 -- what each place of the target gets
 abbrev pub transformed : WholeArray → WholeArray → Transformation → ℤ → State → List (Option Store)
 transformed x y how k s =
-    map (λ t. Some record { place = t; value = slice_index_or (array s y.array).elements (source_place how k (extents_of x) t) (pos 0) })
+    map (λ t. Some record { place = t; value = value_at how k (extents_of x) (array s y.array).elements t })
     (range_with_len 0 (product (extents_of x)))
 
 -- the number comes before the shapes, and all values are taken before any is stored

@@ -15,7 +15,7 @@ use Rattle.node_code.specs.Elementals.{each}
 use Rattle.node_code.specs.NestEntry.{entered}
 use Rattle.node_code.specs.Execution.{decimals}
 use Rattle.mappings.specs.declared.mapping.Mapping.{Mapping}
-use Rattle.aligned_copies.specs.Layout.{Layout}
+use Rattle.aligned_copies.specs.Layout.{Layout, size_of}
 use Rattle.aligned_copies.specs.Instr as machine
 use Rattle.aligned_copies.specs.Instr.{Instr, Local, Control, Remapping, Rounds}
 use Rattle.aligned_copies.specs.Machine.{on, faulted, set_slot}
@@ -31,7 +31,7 @@ use Rattle.code_meaning.specs.ForallLimits.{forall_limits, one_to_one}
 use Rattle.code_meaning.specs.Anchors.{anchor_in}
 use Rattle.code_meaning.specs.NestStatements.{nest_tuples, nest_spot, copies_extents}
 use Rattle.code_meaning.specs.NestChecks.{entry_state}
-use Rattle.node_code.specs.Instructions.{PrintItem, PrintBytes, PrintNumber, PrintSection, NewMapping, Instruction, Set, Fetch, Store, TestBounds, TestStride, Trips, Jump, JumpIfZero, Halt, Limits, OwnLimits, ForallLimits, OneToOne, Check, Par, ParForall, ParNest, MakeCopies, MakeCopy, ParCopy, ParForallCopy, Verdict, Reduce, Inside, Print, FoldCopy, LastCopy, Remap}
+use Rattle.node_code.specs.Instructions.{PrintItem, PrintBytes, PrintNumber, PrintSection, NewMapping, Instruction, Set, Fetch, Store, TestBounds, TestStride, Trips, Jump, JumpIfZero, Halt, Limits, OwnLimits, ForallLimits, OneToOne, Check, Par, ParForall, ParNest, MakeCopies, MakeCopy, ParCopy, ParForallCopy, Verdict, Reduce, Inside, Print, FoldCopy, LastCopy, ScanCopy, Remap}
 
 abbrev pub spot_in : ℕ → List Dim → List ℤ → Result Spot Cause
 spot_in a dims subscripts = if_in_bounds (element_place dims subscripts) >>= (λ k. Ok (record { row = a; at = k }))
@@ -110,6 +110,10 @@ pub record ArrayTable : Type 0 where
   pub copies : List Layout → Option Anchor → (extents : List ℕ) → Layout
   pub rounds : List Remapping → Rounds
 
+-- a copy lies as one of one dimension with as many elements, which lies beside nothing
+abbrev pub lies_alone : ArrayTable → Layout → Bool
+lies_alone table layout = is_same_layout layout (table.copies [] None (size_of layout ∷ []))
+
 -- what is assigned is an element of one of so many declared arrays, whose rows are the first
 abbrev pub IsAnchorBelow : ℕ → Option Anchor → Type 0
 IsAnchorBelow n None = ⊤
@@ -146,4 +150,5 @@ meaning_of table (Inside line a subs) = Local (λ c. go_on_if (at_line line (all
 meaning_of table (Print items) = machine.Print (items_of table.shapes items) (λ bytes. drop 1 bytes ++ 10 ∷ [])
 meaning_of table (FoldCopy copy j x) = machine.FoldCopy copy (fold_of j) x
 meaning_of table (LastCopy copy set x) = machine.LastCopy copy set is_same_layout x
+meaning_of table (ScanCopy copy j) = machine.Scan copy (lies_alone table) (fold_of j)
 meaning_of table (Remap line new) = machine.Remap (remappings table.maps new) (table.rounds (remappings table.maps new))

@@ -13,7 +13,7 @@ use Rattle.node_code.specs.Parallel.{When, Assignment, Evaluation}
 use Rattle.code_meaning.specs.Parallel.{shape_of}
 use Rattle.node_code.specs.NestStatements.{NestLeft, ElementLeft, CopyLeft, NestStatement}
 use Rattle.node_code.specs.Instructions as code
-use Rattle.node_code.specs.Instructions.{PrintItem, PrintBytes, PrintNumber, PrintSection, NewMapping, Instruction, Set, Fetch, Store, TestBounds, TestStride, Trips, Jump, JumpIfZero, Halt, Limits, OwnLimits, ForallLimits, OneToOne, Check, Par, ParForall, ParNest, MakeCopies, MakeCopy, ParCopy, ParForallCopy, Verdict, Inside, Print, FoldCopy, LastCopy, Remap}
+use Rattle.node_code.specs.Instructions.{PrintItem, PrintBytes, PrintNumber, PrintSection, NewMapping, Instruction, Set, Fetch, Store, TestBounds, TestStride, Trips, Jump, JumpIfZero, Halt, Limits, OwnLimits, ForallLimits, OneToOne, Check, Par, ParForall, ParNest, MakeCopies, MakeCopy, ParCopy, ParForallCopy, Verdict, Inside, Print, FoldCopy, LastCopy, ScanCopy, Remap}
 
 -- what code names things of: the dimensions of the declared names by their places, how many copies have rows after them, and how many
 -- mappings, slots and places of the code there are
@@ -181,6 +181,7 @@ module _ (table : CodeTable) where
   IsValid (Print items) = AllByRecursion IsItem items
   IsValid (FoldCopy copy j x) = IsCopy copy × IsSlot x
   IsValid (LastCopy copy set x) = IsCopy copy × IsCopy set × IsSlot x
+  IsValid (ScanCopy copy j) = IsCopy copy
   IsValid (Remap line new) = AllByRecursion IsNewMapping new × IsDistinct nat_eq (map (λ n. n.array) new)
 
 -- the run doesn't go on to the next place

@@ -12,7 +12,7 @@ use Rattle.array_meaning.specs.declared.sections.Sequence.{Sequence}
 use Rattle.array_meaning.specs.declared.sections.Selection.TheVariants.{Along}
 use Rattle.array_meaning.specs.Elementals.{Elemental, Same, Selected, Operation, NoOperand, Operand}
 use Rattle.statement_trail.specs.Anchors.{AtTerm, AlongTerms, AnchorText}
-use Rattle.statement_trail.specs.Trail.{Event, TrailEntry, SectionAssigned, WhereMask, Reduced, ForallMask, ElementsAssigned, Redistributed, trail_of}
+use Rattle.statement_trail.specs.Trail.{Event, TrailEntry, SectionAssigned, ValuesCopied, Reduced, ForallMask, ElementsAssigned, Redistributed, trail_of}
 use Rattle.computed_programs.proofs.Shorthands.{A, B, I, K, scalar, vector, n, v, minus, add, mul, div, gt, call, range, range_by, variable, variable_at, element_at, assign, axis, at, set, print, block, loop, where_mask, forall_over, forall_masked, sub, element, parts, array, dim, matrix}
 
 abbrev names : List Entry
@@ -49,7 +49,7 @@ each_part : trail_of names (block (
     set 6 (variable_at B (range (n 1) (n 2) ∷ [])) (v A) ∷ []))
     ≡ reached 2 0 (Reduced op.Sum (3 ∷ []) (all_of 1))
     ∷ reached 2 0 (SectionAssigned false None (3 ∷ []) 0 (Along from_one ∷ []) (Operation op.Add (Operand (all_of 0) (Operand (Same (pos 0)) NoOperand))))
-    ∷ reached 3 0 (WhereMask (beside_all 1) (3 ∷ []) (Operation op.Gt (Operand (all_of 0) (Operand (Same (pos 1)) NoOperand))))
+    ∷ reached 3 0 (ValuesCopied (beside_all 1) (3 ∷ []) (Operation op.Gt (Operand (all_of 0) (Operand (Same (pos 1)) NoOperand))))
     ∷ reached 3 0 (SectionAssigned true (beside_all 1) (3 ∷ []) 1 (Along from_one ∷ []) (Operation op.Div (Operand (Same (pos 1)) (Operand (all_of 0) NoOperand))))
     ∷ reached 4 0 (ForallMask (beside_index 1) (from_one ∷ []) (Apply op.Gt (More (Index 0) (More (Number (pos 1)) NoTerm))))
     ∷ reached 4 0 (ElementsAssigned true (beside_index 1) (from_one ∷ []) 1 (More (Index 0) NoTerm) (Element 0 (More (Index 0) NoTerm)))
@@ -155,7 +155,7 @@ controls_once = refl
 -- A mask is one part, and each assignment one at its own line, those after ELSEWHERE too.
 -- WHERE (A > 2)|A = 1|ELSEWHERE|B = A|END WHERE|END
 where_parts : trail_of names (block (where_mask 2 (gt (v A) (n 2)) (assign 3 (variable A) (n 1) ∷ []) (assign 5 (variable B) (v A) ∷ []) ∷ []))
-    ≡ reached 2 0 (WhereMask (beside_all 0) (3 ∷ []) (Operation op.Gt (Operand (all_of 0) (Operand (Same (pos 2)) NoOperand))))
+    ≡ reached 2 0 (ValuesCopied (beside_all 0) (3 ∷ []) (Operation op.Gt (Operand (all_of 0) (Operand (Same (pos 2)) NoOperand))))
     ∷ reached 3 0 (SectionAssigned true (beside_all 0) (3 ∷ []) 0 (Along from_one ∷ []) (Same (pos 1)))
     ∷ reached 5 0 (SectionAssigned true (beside_all 0) (3 ∷ []) 1 (Along from_one ∷ []) (all_of 0))
     ∷ []
@@ -169,7 +169,7 @@ beside_reversed = Some record { array = 1; subscripts = AlongTerms (Number (pos 
 -- WHERE (A > 2)|ELSEWHERE|B(3:K:-1) = A|END WHERE|END
 beside_elsewhere : trail_of names (block (
     where_mask 2 (gt (v A) (n 2)) [] (assign 4 (variable_at B (range_by (n 3) (v K) (minus (n 1)) ∷ [])) (v A) ∷ []) ∷ []))
-    ≡ reached 2 0 (WhereMask beside_reversed (3 ∷ []) (Operation op.Gt (Operand (all_of 0) (Operand (Same (pos 2)) NoOperand))))
+    ≡ reached 2 0 (ValuesCopied beside_reversed (3 ∷ []) (Operation op.Gt (Operand (all_of 0) (Operand (Same (pos 2)) NoOperand))))
     ∷ reached 4 0 (SectionAssigned true beside_reversed (3 ∷ []) 1 (Along record { first = pos 3; step = negsuc 0; count = 3 } ∷ []) (all_of 0))
     ∷ []
 unfolding int_wrap
@@ -179,7 +179,7 @@ beside_elsewhere = refl
 -- WHERE (A > 2) B(2/2:3) = 1|END
 beside_unknown : trail_of names (block (
     where_mask 2 (gt (v A) (n 2)) (assign 2 (variable_at B (range (div (n 2) (n 2)) (n 3) ∷ [])) (n 1) ∷ []) [] ∷ []))
-    ≡ reached 2 0 (WhereMask None (3 ∷ []) (Operation op.Gt (Operand (all_of 0) (Operand (Same (pos 2)) NoOperand))))
+    ≡ reached 2 0 (ValuesCopied None (3 ∷ []) (Operation op.Gt (Operand (all_of 0) (Operand (Same (pos 2)) NoOperand))))
     ∷ reached 2 0 (SectionAssigned true None (3 ∷ []) 1 (Along from_one ∷ []) (Same (pos 1)))
     ∷ []
 unfolding int_wrap
@@ -188,7 +188,7 @@ beside_unknown = refl
 -- An assignment that ends with a fault is reached, and what stands after ELSEWHERE then isn't.
 -- WHERE (A > 1)|A = 1 / B|ELSEWHERE|B = A|END WHERE|END
 where_to_fault : trail_of names (block (where_mask 2 (gt (v A) (n 1)) (assign 3 (variable A) (div (n 1) (v B)) ∷ []) (assign 5 (variable B) (v A) ∷ []) ∷ []))
-    ≡ reached 2 0 (WhereMask (beside_all 0) (3 ∷ []) (Operation op.Gt (Operand (all_of 0) (Operand (Same (pos 1)) NoOperand))))
+    ≡ reached 2 0 (ValuesCopied (beside_all 0) (3 ∷ []) (Operation op.Gt (Operand (all_of 0) (Operand (Same (pos 1)) NoOperand))))
     ∷ reached 3 0 (SectionAssigned true (beside_all 0) (3 ∷ []) 0 (Along from_one ∷ []) (Operation op.Div (Operand (Same (pos 1)) (Operand (all_of 1) NoOperand))))
     ∷ []
 unfolding int_wrap

@@ -1,14 +1,14 @@
 -- Of a promise.
 -- What the machine with whole arrays passes: parallel statements, reductions and redistributions, each with the slots before it; and when these
 -- are the entries of a trail.
-use Rattle.std.specs.Prelude.{◌≡◌, ℕ, zero, suc, ◌<◌, List, [], ◌∷◌, ◌++◌, map, length, slice_index_or, is_some, ℤ, pos, Option, Some, None, ⊤}
+use Rattle.std.specs.Prelude.{◌≡◌, ℕ, zero, suc, ◌<◌, List, [], ◌∷◌, ◌++◌, map, length, slice_index_or, is_some, ℤ, pos, Option, Some, None, ⊤, ◌⊎◌}
 use Rattle.std.specs.List.{slice_get}
 use Rattle.op_tables.specs.declared.op.Op.{Op}
 use Rattle.op_tables.specs.Reductions.{reduction_of}
 use Rattle.array_meaning.specs.Faults.{Fault}
 use Rattle.array_meaning.specs.Sections.{extents}
 use Rattle.array_meaning.specs.Terms.{Term, Terms}
-use Rattle.statement_trail.specs.Trail.{Event, Trail, TrailEntry, SectionAssigned, WhereMask, Reduced, ForallMask, ElementsAssigned, OfNest, Redistributed}
+use Rattle.statement_trail.specs.Trail.{Event, Trail, TrailEntry, SectionAssigned, ValuesCopied, Reduced, ForallMask, ElementsAssigned, CopyAssigned, OfNest, Redistributed}
 use Rattle.statement_trail.specs.Anchors.{AnchorText}
 use Rattle.statement_trail.specs.NestParts.{EnteredNest, NestPart}
 use Rattle.nest_syntax.specs.Asked.{Asked}
@@ -17,9 +17,11 @@ use Rattle.array_meaning.specs.declared.sections.Selection.TheVariants.{Along}
 use Rattle.machine_steps.specs.Instr.{Status, Running}
 use Rattle.machine_steps.specs.Machine.{Machine, step}
 use Rattle.node_code.specs.declared.nest.NestRole.{NestRole}
-use Rattle.node_code.specs.declared.nest.NestRole.TheVariants.{SetsMark}
+use Rattle.node_code.specs.declared.nest.NestRole.TheVariants.{Assigns, SetsMark}
 use Rattle.code_meaning.specs.Flat.{slot}
-use Rattle.node_code.specs.Forms.{ArrayForm}
+use Rattle.node_code.specs.Flat.{Flat}
+use Rattle.node_code.specs.Forms.{ArrayForm, FlatForm}
+use Rattle.node_code.specs.NestStatements.{NestStatement, ElementLeft}
 use Rattle.code_meaning.specs.Forms.{selections_in, elemental_in, elemental_at}
 use Rattle.node_code.specs.Parallel.{When}
 use Rattle.code_meaning.specs.Parallel.{evaluation_extents}
@@ -79,6 +81,20 @@ IsMaskCopy n mask = (w : When) → mask ≡ Some w → w.copy ≡ n
 abbrev pub AreSameForms : List ℤ → ArrayForm → ArrayForm → Type 0
 AreSameForms slots form other = (indices : List ℤ) → elemental_at slots indices form ≡ elemental_at slots indices other
 
+-- a statement at all iterations of a nest is that part of it
+abbrev pub IsNestEvent : ℕ → NestStatement → List ℤ → Event → Type 0
+IsNestEvent n p slots event =
+    (nest : EnteredNest) × (asked : List Asked) × (part : NestPart) × (event ≡ OfNest nest asked part)
+    × (selections_in slots p.over ≡ map Along nest.axes) × (p.whens ≡ whens_for n nest asked) × AreStored n nest asked
+    × IsPart n nest p part × IsBeside n p.beside nest.beside
+
+-- or it gives the elements of an array those of the copy after so many declared names, which lies beside nothing
+abbrev pub IsCopyEvent : ℕ → NestStatement → List ℤ → Event → Type 0
+IsCopyEvent n p slots event =
+    (axes : List Sequence) × (a : ℕ) × (ts : Terms) × (f : Flat) × (event ≡ CopyAssigned axes a ts) × (selections_in slots p.over ≡ map Along axes)
+    × (p.left ≡ ElementLeft a (index_subs ts)) × (p.right ≡ FlatForm f) × (p.whens ≡ []) × (p.copies ≡ n ∷ []) × (p.names ≡ []) × (p.role ≡ Assigns)
+    × (p.beside ≡ None) × AreSubscripts n ts
+
 -- where n names are declared, the instruction is that part of the line, or that redistribution: its constants and the slots that it names give what
 -- was evaluated once. `moves` says of a line which arrays its REDISTRIBUTE moves
 abbrev pub IsEvent : (ℕ → List NewMapping) → (n : ℕ) → Instruction → List ℤ → ℕ → Event → Type 0
@@ -86,7 +102,7 @@ IsEvent moves n (Par p) slots line event =
     (p.line ≡ line) × ((beside : Option AnchorText) × (event ≡ SectionAssigned (is_some p.mask) beside (extents (selections_in slots p.over)) p.array (selections_in slots p.left)
     (elemental_in slots p.right)) × IsMaskCopy n p.mask × IsBeside n p.beside beside × IsForeknown beside)
 IsEvent moves n (ParCopy copy p) slots line event =
-    (p.line ≡ line) × ((beside : Option AnchorText) × (event ≡ WhereMask beside (evaluation_extents p slots) (elemental_in slots p.form)) × (copy ≡ n)
+    (p.line ≡ line) × ((beside : Option AnchorText) × (event ≡ ValuesCopied beside (evaluation_extents p slots) (elemental_in slots p.form)) × (copy ≡ n)
     × IsBeside n p.beside beside × IsForeknown beside)
 IsEvent moves n (Reduce p r x) slots line event =
     (p.line ≡ line) × ((o : Op) × (event ≡ Reduced o (evaluation_extents p slots) (elemental_in slots p.form)) × (r ≡ reduction_of o))
@@ -97,10 +113,7 @@ IsEvent moves n (ParForall p) slots line event =
 IsEvent moves n (ParForallCopy copy p) slots line event =
     (p.line ≡ line) × ((beside : Option AnchorText) × (axes : List Sequence) × (t : Term) × (event ≡ ForallMask beside axes t)
     × (selections_in slots p.over ≡ map Along axes) × (p.form ≡ index_form t) × (copy ≡ n) × IsIndexed n t × IsBeside n p.beside beside)
-IsEvent moves n (ParNest p) slots line event =
-    (p.line ≡ line) × ((nest : EnteredNest) × (asked : List Asked) × (part : NestPart) × (event ≡ OfNest nest asked part)
-    × (selections_in slots p.over ≡ map Along nest.axes) × (p.whens ≡ whens_for n nest asked) × AreStored n nest asked
-    × IsPart n nest p part × IsBeside n p.beside nest.beside)
+IsEvent moves n (ParNest p) slots line event = (p.line ≡ line) × (IsNestEvent n p slots event ⊎ IsCopyEvent n p slots event)
 IsEvent moves n (Remap l new) slots line event = (l ≡ line) × (event ≡ Redistributed) × (new ≡ moves line)
 IsEvent moves n i slots line event = ⊥
 

@@ -23,7 +23,7 @@ use Rattle.lowered_expressions.proofs.Goes.{Holds, kept-refl, Goes, Flows, goes-
 use Rattle.lowering.proofs.Masks.{FirstWithin, first-within, first-kept}
 use Rattle.lowering.proofs.Parts.{FormGives, parts-come}
 use Rattle.statement_trail.specs.Anchors.{AnchorText, where_anchor}
-use Rattle.statement_trail.specs.Trail.{Trail, WhereMask, after_value, after_run, reached, elemental_trail, over_own_space, section_trail, where_trail, trail}
+use Rattle.statement_trail.specs.Trail.{Trail, ValuesCopied, after_value, after_run, reached, elemental_trail, over_own_space, section_trail, where_trail, trail}
 use Rattle.lowered_expressions.specs.Anchors.{IsAnchorText, IsForeknown}
 use Rattle.lowered_expressions.specs.Passed.{note, IsTrail}
 use Rattle.lowered_expressions.proofs.Anchors.{where-anchored, where-foreknown, masked-append}
@@ -101,7 +101,7 @@ module _ (table : ArrayTable) (row_count : ℕ) (moves : ℕ → List NewMapping
   where-goes line b pc mask body others slots rows s ok ok1 ok2 has le few holds =
       goes-at table row_count moves code n many None leave again (trail (Where mask body others) line s) to (pc + length (c ++ tail)) b slots (stands table row_count moves code pc slots rows s.printed) (run_where line mask body others s) long
       (subst (Goes table row_count moves code n many None leave again (trail (Where mask body others) line s) to b slots (stands table row_count moves code pc slots rows s.printed)) (sym (value-bind line s (elemental [] s mask) (array_value s) does))
-      (goes-value table row_count moves code n many None leave again (elemental_trail line s mask) (λ r. over_own_space line s r (WhereMask beside) ++ after_value (array_value s r) does_trail) line pc pc1 to b b1 slots rows s (FormGives n b1 (form_of b mask)) (elemental [] s mask)
+      (goes-value table row_count moves code n many None leave again (elemental_trail line s mask) (λ r. over_own_space line s r (ValuesCopied beside) ++ after_value (array_value s r) does_trail) line pc pc1 to b b1 slots rows s (FormGives n b1 (form_of b mask)) (elemental [] s mask)
       (λ r. with_value line s (array_value s r) does) (omega arith) le holds
       (parts-come table row_count moves code line n s rows s.printed holds.arrays mask pc b slots ok (has-front code pc c tail has) holds.scalars le (omega (arith, few, holds.size)))
       (λ slots1 r e same gives holds1. after slots1 r (gives.0 slots1 (same-refl b1 slots1)) gives.1 holds1)))
@@ -162,10 +162,10 @@ module _ (table : ArrayTable) (row_count : ℕ) (moves : ℕ → List NewMapping
       at_bodies = has-drop code 4 pc1 tail at_tail
 
       after : (slots1 : List ℤ) (r : Elemental) → elemental_in slots1 (form_of b mask) ≡ r → NamesBelow n r → Holds table row_count moves code n many None s slots1 rows
-          → Goes table row_count moves code n many None leave again (over_own_space line s r (WhereMask beside) ++ after_value (array_value s r) does_trail) to b1 slots1
+          → Goes table row_count moves code n many None leave again (over_own_space line s r (ValuesCopied beside) ++ after_value (array_value s r) does_trail) to b1 slots1
           (stands table row_count moves code pc1 slots1 rows s.printed) (with_value line s (array_value s r) does)
       after slots1 r right named holds1 =
-          subst (Goes table row_count moves code n many None leave again (over_own_space line s r (WhereMask beside) ++ after_value (array_value s r) does_trail) to b1 slots1 (stands table row_count moves code pc1 slots1 rows s.printed))
+          subst (Goes table row_count moves code n many None leave again (over_own_space line s r (ValuesCopied beside) ++ after_value (array_value s r) does_trail) to b1 slots1 (stands table row_count moves code pc1 slots1 rows s.printed))
           (sym (value-bind line s (space_size ns (sections r)) (λ k. values_over s ns r k >>= (λ vs. Ok (valued vs))) does))
           (by_limits (space_size ns (sections r)) refl)
         where
@@ -182,7 +182,7 @@ module _ (table : ArrayTable) (row_count : ℕ) (moves : ℕ → List NewMapping
           count = product ns
 
           entry : Trail
-          entry = reached line s (WhereMask beside ns r)
+          entry = reached line s (ValuesCopied beside ns r)
 
           those : IsTrail moves (note (ParCopy n p) slots1) entry
           those = (

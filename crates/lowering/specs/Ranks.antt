@@ -8,7 +8,7 @@ use Rattle.name_table.specs.declared.limits.TheConstants.{MAX_INDICES}
 use Rattle.expression_rules.specs.declared.dims.Dim.{Dim}
 use Rattle.expression_rules.specs.Dims.{AreDims}
 use Rattle.array_meaning.specs.Terms.{Term, Number, Scalar, Index, Element, Section, Apply, Reduce, Terms, NoTerm, More, list_of, SectionSubscripts, NoSubscript, Subscript, Triplet, Control}
-use Rattle.array_meaning.specs.Statements.{Item, Text, Value, Elements, SectionAssignment, ElementAssignment, WholeArray, Transformation, CircularShift, Transposition, Block, Done, Then, Statement, AssignScalar, AssignElement, AssignSection, Transform, If, Do, Where, Forall, Print, Stop, Exit, Cycle, Continue, Redistribute, Arms, NoArm, Arm}
+use Rattle.array_meaning.specs.Statements.{Item, Text, Value, Elements, SectionAssignment, ElementAssignment, WholeArray, Transformation, CircularShift, Transposition, PrefixSum, Block, Done, Then, Statement, AssignScalar, AssignElement, AssignSection, Transform, If, Do, Where, Forall, Print, Stop, Exit, Cycle, Continue, Redistribute, Arms, NoArm, Arm}
 use Rattle.array_meaning.specs.State.{State}
 use Rattle.code_meaning.specs.Parallel.{shape_of}
 
@@ -26,6 +26,7 @@ subscript_count (Triplet first last step subs) = subscript_count subs + 1
 abbrev pub IsRankOf : Transformation → ℕ → Type 0
 IsRankOf (CircularShift by) rank = 1 ≤ rank
 IsRankOf Transposition rank = rank ≡ 2
+IsRankOf PrefixSum rank = rank ≡ 1
 
 module _ (shapes : List (List Dim)) where
   -- no array has more than 7 dimensions
@@ -84,6 +85,7 @@ module _ (shapes : List (List Dim)) where
   abbrev pub IsRankedTransformation : Transformation → Type 0
   IsRankedTransformation (CircularShift by) = IsRanked 0 by
   IsRankedTransformation Transposition = ⊤
+  IsRankedTransformation PrefixSum = ⊤
 
   abbrev mutual
     -- a statement, of which each expression does

@@ -6,8 +6,8 @@ use Rattle.hpf_base.specs.declared.index.Shape.{Shape}
 use Rattle.node_law.specs.NodeSteps.{Move, after_at, sent}
 use Rattle.node_law.specs.Phases.{PhaseShare, next_number, LeadsTo, Lockstep, all_moves, number_after}
 use Rattle.storage.specs.Storage.{Spot, read}
-use Rattle.machine_steps.specs.Layout.{Layout, sizes, pieces, IsDealt, AreOwned}
-use Rattle.machine_steps.specs.Instr.{Status, Running, Finished, Faulted, Tuples, Fold, Remapping, Rounds, Item, Text, Elements, Instr, Fetch, Par, Reduce, MakeCopy, FoldCopy, LastCopy, Remap, Print}
+use Rattle.machine_steps.specs.Layout.{Layout, sizes, pieces, IsDealt, IsInBlocks, AreOwned}
+use Rattle.machine_steps.specs.Instr.{Status, Running, Finished, Faulted, Tuples, Fold, Remapping, Rounds, Item, Text, Elements, Instr, Fetch, Par, Reduce, MakeCopy, FoldCopy, LastCopy, Scan, Remap, Print}
 use Rattle.machine_steps.specs.Machine.{Machine, Kept, is_before, remapped, instr_at}
 use Rattle.machine_steps.specs.Tree.{levels_of, tree_sends}
 use Rattle.machine_steps.specs.Message.{Part, par_part, reduce_part, gather_part, fetch_part, message, remap_message, has_any}
@@ -100,6 +100,7 @@ IsValidInstr count shapes (MakeCopy copy layout start) = (length shapes ≤ copy
     → (slots : List ℤ) → IsDealt count (layout layouts slots))
 IsValidInstr count shapes (FoldCopy copy f slot) = IsFold f
 IsValidInstr count shapes (LastCopy copy set alike slot) = (one other : Layout) → alike one other ≡ true → one ≡ other
+IsValidInstr count shapes (Scan copy in_blocks f) = IsFold f × ((layout : Layout) → in_blocks layout ≡ true → IsInBlocks count layout)
 IsValidInstr count shapes (Remap new rounds) = AreDealt count shapes new × ((layouts : List Layout) → AreDeclared shapes layouts → AreOwned count layouts
     → AreCovered count new rounds layouts)
 IsValidInstr count shapes i = ⊤

@@ -71,6 +71,8 @@ pub data Instr (F : Type 0) : Type 0 where
   -- the slot gets the element of a copy at the last position where the other copy is 1. It stays where there is none, or where
   -- the two don't lie alike
   LastCopy : (copy set : ℕ) → (alike : Layout → Layout → Bool) → (slot : ℕ) → Instr F
+  -- each element of a copy is joined with those before it, where the copy lies in blocks, one node's after another's. Else it stays
+  Scan : (copy : ℕ) → (in_blocks : Layout → Bool) → Fold → Instr F
   -- REDISTRIBUTE (HPF 2.0, 8.3)
   Remap : List Remapping → Rounds → Instr F
   -- the items one after another, and then the line that is made of their bytes

@@ -1,6 +1,7 @@
 -- Of the claim.
 -- How the elements of an array or of a copy lie on the nodes, and what a node holds of them.
-use Rattle.std.specs.Prelude.{ℕ, zero, suc, ◌+◌, ◌<◌, ◌≡◌, Bool, true, false, ◌&&◌, List, [], ◌∷◌, map, if◌then◌else◌, ℤ, Option, Some, None, nat_lt, slice_index_or}
+use Rattle.std.specs.Prelude.{ℕ, zero, suc, ◌+◌, ◌<◌, ◌≡◌, Bool, true, false, ◌&&◌, List, [], ◌∷◌, length, map, if◌then◌else◌, ℤ, Option, Some, None, nat_lt, slice_index_or}
+use Rattle.std.specs.List.{flat_map, range_with_len}
 use Rattle.hpf_base.specs.declared.index.Shape.{Shape}
 use Rattle.mappings.specs.declared.mapping.Mapping.{Mapping}
 use Rattle.mappings.specs.Alignment.{owns}
@@ -85,6 +86,10 @@ pieces (layout ∷ layouts) node (row ∷ rows) = piece (owned_by layout) node r
 -- every position has an owner among so many nodes
 abbrev pub IsDealt : ℕ → Layout → Type 0
 IsDealt count layout = (at : ℕ) → at < size_of layout → (node : ℕ) × (node < count) × (owned_by layout node at ≡ true)
+
+-- the elements lie in blocks, one node's after another's: any values of theirs are the nodes' pieces in a row
+abbrev pub IsInBlocks : ℕ → Layout → Type 0
+IsInBlocks count layout = (row : List ℤ) → length row ≡ size_of layout → flat_map (λ node. piece (owned_by layout) node row) (range_with_len 0 count) ≡ row
 
 -- every element has one
 abbrev pub AreOwned : ℕ → List Layout → Type 0

@@ -1,13 +1,13 @@
 -- Of the claim.
 -- The machine with whole arrays: one state, no nodes and no letters. A step is one instruction, or one step of a Reduce or a Print.
-use Rattle.std.specs.Prelude.{ℕ, zero, suc, ◌+◌, ◌==◌, ◌&&◌, ◌||◌, Bool, false, ℤ, pos, List, [], ◌∷◌, ◌++◌, map, length, replicate, Option, Some, None, Result, Ok, Err, slice_index_or, slice_set, nat_lt, if◌then◌else◌}
-use Rattle.std.specs.List.{slice_get, fold}
+use Rattle.std.specs.Prelude.{ℕ, zero, suc, ◌+◌, ◌==◌, ◌&&◌, ◌||◌, Bool, true, false, ℤ, pos, List, [], ◌∷◌, ◌++◌, map, length, replicate, Option, Some, None, Result, Ok, Err, slice_index_or, slice_set, take, nat_lt, if◌then◌else◌}
+use Rattle.std.specs.List.{slice_get, fold, range_with_len}
 use Rattle.std.specs.Ordering.{int_eq}
 use Rattle.mappings.specs.declared.mapping.Mapping.{Mapping}
 use Rattle.storage.specs.Storage.{Storage, Spot, row_of, read, write}
 use Rattle.storage.specs.Effect.{Effect, Skip, Put, Fail, scatter}
 use Rattle.machine_steps.specs.Layout.{Layout, size_of}
-use Rattle.machine_steps.specs.Instr.{Status, Running, Finished, Faulted, Control, Outcome, Nothing, Value, Breaks, Tuples, Fold, Remapping, Item, Text, Elements, Instr, Local, Fetch, Store, Par, Verdict, Reduce, MakeCopy, FoldCopy, LastCopy, Remap, Print}
+use Rattle.machine_steps.specs.Instr.{Status, Running, Finished, Faulted, Control, Outcome, Nothing, Value, Breaks, Tuples, Fold, Remapping, Item, Text, Elements, Instr, Local, Fetch, Store, Par, Verdict, Reduce, MakeCopy, FoldCopy, LastCopy, Scan, Remap, Print}
 
 -- a fault that is kept, with its key: the number of its tuple, and then the number of parts since the last verdict
 pub record Kept (F : Type 0) : Type 0 where
@@ -137,10 +137,19 @@ module _ {F : Type 0} where
   folded f outcome zero = f.unit
   folded f outcome (suc t) = join_outcome f (outcome t) (folded f outcome t)
 
+-- each of some values joined with those before it, in order (HPF 2.0, 7)
+abbrev pub scan : Fold → List ℤ → List ℤ
+scan f values = map (λ at. fold f.join f.unit (take (at + 1) values)) (range_with_len 0 (length values))
+
 -- the value of the last of so many positions that pass
 abbrev pub last_passing : {A : Type 0} → (ℕ → Bool) → (ℕ → A) → ℕ → Option A
 last_passing P value zero = None
 last_passing P value (suc n) = if P n then Some (value n) else last_passing P value n
+
+-- a row has a layout, which is such
+abbrev pub lies_so : (Layout → Bool) → Option Layout → Bool
+lies_so is_such None = false
+lies_so is_such (Some layout) = is_such layout
 
 -- both rows have layouts that are alike
 abbrev pub lie_alike : (Layout → Layout → Bool) → Option Layout → Option Layout → Bool
@@ -157,6 +166,11 @@ last_of alike layouts rows copy set =
     if lie_alike alike (slice_get layouts copy) (slice_get layouts set)
     then last_passing (λ at. is_one (read rows (record { row = set; at = at }))) (λ at. read rows (record { row = copy; at = at })) (length (row_of rows copy))
     else None
+
+-- a copy is scanned, where it lies so
+abbrev pub scanned_rows : Bool → Fold → ℕ → Storage → Storage
+scanned_rows true f copy rows = slice_set rows copy (scan f (row_of rows copy))
+scanned_rows false f copy rows = rows
 
 -- ---- layouts
 
@@ -237,6 +251,11 @@ module _ {C F : Type 0} where
     substep = 0;
   }
   step_by (LastCopy copy set alike slot) m = record m { control = last_control (last_of alike m.layouts m.rows copy set) slot m.control; substep = 0 }
+  step_by (Scan copy in_blocks f) m = record m {
+    control = on m.control;
+    substep = 0;
+    rows = scanned_rows (lies_so in_blocks (slice_get m.layouts copy)) f copy m.rows;
+  }
   step_by (Remap new rounds) m = record m { control = on m.control; substep = 0; layouts = remapped new m.layouts }
   step_by (Print items line) m = print_step (slice_get items m.substep) line m
 

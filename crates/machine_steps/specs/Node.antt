@@ -1,20 +1,20 @@
 -- Of the claim.
 -- A node of a distributed run as plain data, and its steps.
-use Rattle.std.specs.Prelude.{ℕ, zero, suc, ◌+◌, ◌-◌, ◌*◌, ◌%◌, ◌^◌, ◌==◌, ◌&&◌, ◌≡◌, Bool, false, ℤ, pos, List, [], ◌∷◌, ◌++◌, map, filter, replicate, Option, Some, None, Result, Ok, Err, slice_index_or, slice_set, nat_lt, unsigned_abs, if◌then◌else◌}
-use Rattle.std.specs.List.{range_with_len, slice_get}
+use Rattle.std.specs.Prelude.{ℕ, zero, suc, ◌+◌, ◌-◌, ◌*◌, ◌%◌, ◌^◌, ◌==◌, ◌&&◌, ◌≡◌, Bool, true, false, ℤ, pos, List, [], ◌∷◌, ◌++◌, map, filter, replicate, Option, Some, None, Result, Ok, Err, length, slice_index_or, slice_set, take, nat_lt, unsigned_abs, if◌then◌else◌}
+use Rattle.std.specs.List.{fold, range_with_len, slice_get}
 use Rattle.node_law.specs.declared.act.Act.{Act}
 use Rattle.node_law.specs.declared.act.Act.TheVariants as act
 use Rattle.node_law.specs.NodeSteps.{NodeSteps}
 use Rattle.node_law.specs.Phases.{next_number}
 use Rattle.letters.specs.declared.letter.Letter.{Letter}
 use Rattle.letters.specs.Parcel.{Parcel}
-use Rattle.storage.specs.Storage.{Storage, Spot, read, write}
+use Rattle.storage.specs.Storage.{Storage, Spot, row_of, read, write}
 use Rattle.storage.specs.Effect.{Effect, Skip, Put, Fail}
 use Rattle.machine_steps.specs.Layout.{Layout, size_of, sizes, owned_by, owned_in, owns_spot, least_owner_of, piece, address}
-use Rattle.machine_steps.specs.Instr.{Status, Running, Finished, Faulted, Control, Outcome, Nothing, Value, Breaks, Tuples, Fold, Rounds, Remapping, Item, Text, Elements, Instr, Local, Fetch, Store, Par, Verdict, Reduce, MakeCopy, FoldCopy, LastCopy, Remap, Print}
-use Rattle.machine_steps.specs.Machine.{Kept, on, stay, faulted, slot_of, set_slot, store_control, verdict_control, last_control, picked, store_in, outcome_of, effect_by, earlier, keep, lie_alike, is_one, last_passing, remapped, item_bytes, instr_at}
+use Rattle.machine_steps.specs.Instr.{Status, Running, Finished, Faulted, Control, Outcome, Nothing, Value, Breaks, Tuples, Fold, Rounds, Remapping, Item, Text, Elements, Instr, Local, Fetch, Store, Par, Verdict, Reduce, MakeCopy, FoldCopy, LastCopy, Scan, Remap, Print}
+use Rattle.machine_steps.specs.Machine.{Kept, on, stay, faulted, slot_of, set_slot, store_control, verdict_control, last_control, picked, store_in, outcome_of, effect_by, earlier, keep, lies_so, lie_alike, is_one, last_passing, remapped, item_bytes, instr_at}
 use Rattle.machine_steps.specs.Message.{Part, par_part, reduce_part, gather_part, fetch_part, message, remap_message, has_any, lookup}
-use Rattle.machine_steps.specs.Tree.{levels_of, tree_sends}
+use Rattle.machine_steps.specs.Tree.{levels_of, scan_sends, tree_sends}
 
 -- a node is before an instruction, or in one of its phases, with what is still to be sent and from whom letters are still to be
 -- taken, or after that phase
@@ -24,9 +24,9 @@ pub data Stage : Type 0 where
   Passed : Stage
 
 -- `id` is its number of `nodes`, from 0. Of what it has for itself, `pieces` are its pieces of all rows, `kept` the fault that it
--- keeps, `joined` the values of a reduction that it computed, joined, and `line` and `printed` are node 0's. By the other node's number are
+-- keeps, `joined` the values of a reduction that it computed, joined, or those that it took in a scan, and `line` and `printed` are node 0's. By the other node's number are
 -- `received`, the values taken in this phase, and the numbers of the next letter to that node and from it. `round` counts the
--- phases of the instruction so far, and `folded` is what a tree has joined so far
+-- phases of the instruction so far, and `folded` is what a tree or a scan has joined so far
 pub record Node (C F : Type 0) : Type 0 where
   pub id : ℕ
   pub nodes : ℕ
@@ -90,6 +90,15 @@ join_after join a (Some b) = join a b
 abbrev pub join_below : (ℤ → ℤ → ℤ) → (ℕ → Option ℤ) → ℕ → Option ℤ
 join_below join value zero = None
 join_below join value (suc n) = join_options join (join_below join value n) (value n)
+
+-- values joined in order, where there are any
+abbrev pub join_all : (ℤ → ℤ → ℤ) → List ℤ → Option ℤ
+join_all join values = fold (join_options join) None (map Some values)
+
+-- each of some values joined with those before it, after others, where there are any
+abbrev pub scan_after : (ℤ → ℤ → ℤ) → ℤ → Option ℤ → List ℤ → List ℤ
+scan_after join unit before values =
+    map (λ at. join_after join unit (join_options join before (join_all join (take (at + 1) values)))) (range_with_len 0 (length values))
 
 abbrev pub outcome_value : {F : Type 0} → Outcome F → Option ℤ
 outcome_value Nothing = None
@@ -334,6 +343,38 @@ module _ {C F : Type 0} (count : ℕ) where
   abbrev pub last_ended : ℕ → Node C F → Node C F
   last_ended slot a = ready count (record a { control = last_control (value_of (values_positioned a.folded)) slot a.control; substep = 0 })
 
+  -- ---- scans
+
+  -- each element of the node's piece is joined with what it took and those before it
+  abbrev pub scan_ended : ℕ → Fold → Node C F → Node C F
+  scan_ended copy f a = ready count (record a {
+    control = on a.control;
+    substep = 0;
+    joined = None;
+    pieces = slice_set a.pieces copy (scan_after f.join f.unit a.joined (row_of a.pieces copy));
+  })
+
+  -- the next round, or the end of the scan
+  abbrev pub scan_next : ℕ → Fold → Node C F → Node C F
+  scan_next copy f a = if nat_lt a.round (levels_of count) then opened count (scan_sends a.round) (λ q. a.folded) a else scan_ended copy f a
+
+  -- a scan over what each node has of the copy
+  abbrev pub scan_begun : Bool → ℕ → Fold → Node C F → Node C F
+  scan_begun true copy f a = scan_next copy f (record a { round = 0; folded = option_values (join_all f.join (row_of a.pieces copy)); joined = None })
+  scan_begun false copy f a = record a { control = on a.control; substep = 0; joined = None }
+
+  -- what came in the round
+  abbrev pub scan_came : Node C F → Option ℤ
+  scan_came a = if nat_lt a.id (2 ^ a.round) then None else values_option (slice_index_or a.received (a.id - 2 ^ a.round) [])
+
+  -- it is joined before what the node has, and before what it took
+  abbrev pub scan_absorbed : Fold → Node C F → Node C F
+  scan_absorbed f a = record a {
+    round = suc a.round;
+    folded = option_values (join_options f.join (scan_came a) (values_option a.folded));
+    joined = join_options f.join (scan_came a) a.joined;
+  }
+
   -- ---- redistribution
 
   abbrev pub remap_next : List Remapping → Rounds → Node C F → Node C F
@@ -396,6 +437,7 @@ module _ {C F : Type 0} (faults : FaultValues F) (count : ℕ) where
   }
   begun_by (FoldCopy copy f slot) a = tree_begun count (fold_ended count f slot) (option_values (own_fold count copy f a)) a
   begun_by (LastCopy copy set alike slot) a = tree_begun count (last_ended count slot) (positioned_values (own_last count copy set alike a)) a
+  begun_by (Scan copy in_blocks f) a = scan_begun count (lies_so in_blocks (slice_get a.layouts copy)) copy f a
   begun_by (Remap new rounds) a = remap_next count new rounds (record a { received = no_values count; round = 0 })
   begun_by (Print items line) a = print_begun count (slice_get items a.substep) line a
 
@@ -410,6 +452,7 @@ module _ {C F : Type 0} (faults : FaultValues F) (count : ℕ) where
   done_by (MakeCopy copy layout start) a = a
   done_by (FoldCopy copy f slot) a = tree_next count (fold_ended count f slot) (tree_absorbed count (join_options f.join) option_values values_option a)
   done_by (LastCopy copy set alike slot) a = tree_next count (last_ended count slot) (tree_absorbed count later positioned_values values_positioned a)
+  done_by (Scan copy in_blocks f) a = scan_next count copy f (scan_absorbed count f a)
   done_by (Remap new rounds) a = remap_next count new rounds (record a { round = suc a.round })
   done_by (Print items line) a = print_done count (slice_get items a.substep) a
 

@@ -1,5 +1,5 @@
 -- Of the claim.
--- Trees of rounds: who sends to whom, up to node 0 and down again.
+-- Rounds: who sends to whom in a tree, up to node 0 and down again, and in a scan.
 use Rattle.std.specs.Prelude.{ℕ, ◌+◌, ◌-◌, ◌*◌, ◌%◌, ◌^◌, ◌==◌, ◌&&◌, Bool, nat_lt, nat_le, if◌then◌else◌}
 use Rattle.machine_steps.specs.Layout.{first}
 
@@ -14,3 +14,7 @@ sends_up r p q = (p % (2 ^ r * 2) == 2 ^ r) && (p == q + 2 ^ r)
 -- the rounds, from 0: the down rounds are the up rounds backwards, with sends and takes exchanged
 abbrev pub tree_sends : ℕ → ℕ → ℕ → ℕ → Bool
 tree_sends levels k p q = if nat_lt k levels then sends_up k p q else sends_up (2 * levels - 1 - k) q p
+
+-- in round r of a scan a node sends to the one that stands 2^r after it
+abbrev pub scan_sends : ℕ → ℕ → ℕ → Bool
+scan_sends r p q = q == p + 2 ^ r

@@ -13,7 +13,7 @@ use Rattle.array_meaning.specs.Forall.{index_extents, indices_at, linear}
 use Rattle.statement_trail.specs.Anchors.{AnchorTerm, AtTerm, AlongTerms, AnchorText}
 use Rattle.statement_trail.specs.NestParts.{EnteredNest, NestPart, ScalarPart, ElementPart, ConditionPart, index_in, copied_in, scalar_copy, condition_copy}
 use Rattle.nest_syntax.specs.Asked.{Asked}
-use Rattle.statement_trail.specs.Trail.{Event, SectionAssigned, WhereMask, Reduced, ForallMask, ElementsAssigned, OfNest, Redistributed}
+use Rattle.statement_trail.specs.Trail.{Event, SectionAssigned, ValuesCopied, Reduced, ForallMask, ElementsAssigned, CopyAssigned, OfNest, Redistributed}
 use Rattle.machine_steps.specs.Instr.{Remapping}
 use Rattle.machine_steps.specs.Layout.{Layout, in_bounds}
 use Rattle.machine_steps.specs.Message.{Part, computes_left, first_read, least_or_zero}
@@ -87,14 +87,15 @@ module _ (nest : EnteredNest) (scalars : List ℤ) where
 -- the extents of the space of a part
 abbrev pub space_of : Event → List ℕ
 space_of (SectionAssigned masked beside ns a ds x) = ns
-space_of (WhereMask beside ns x) = ns
+space_of (ValuesCopied beside ns x) = ns
 space_of (Reduced o ns x) = ns
 space_of (ForallMask beside axes t) = index_extents axes
 space_of (ElementsAssigned masked beside axes a ts t) = index_extents axes
+space_of (CopyAssigned axes a ts) = index_extents axes
 space_of (OfNest nest asked part) = index_extents nest.axes
 space_of Redistributed = []
 
--- an element of the copy of a mask, which stands after the declared names, of which there are as many as scalars
+-- an element of the copy of a mask or of the source of a prefix sum, which stands after the declared names, of which there are as many as scalars
 abbrev pub mask_spot : List ℤ → ℕ → Option Spot
 mask_spot scalars t = Some record { row = length scalars; at = t }
 
@@ -105,10 +106,11 @@ mask_reads scalars true t = mask_spot scalars t ∷ []
 -- what is read at a tuple: the mask or other copies, and then the elements that the expression names, in the order of the text
 abbrev pub reads_of : Setting → List ℤ → Event → ℕ → List (Option Spot)
 reads_of s scalars (SectionAssigned masked beside ns a ds x) t = mask_reads scalars masked t ++ reads_at s.shapes (positions ns t) x
-reads_of s scalars (WhereMask beside ns x) t = reads_at s.shapes (positions ns t) x
+reads_of s scalars (ValuesCopied beside ns x) t = reads_at s.shapes (positions ns t) x
 reads_of s scalars (Reduced o ns x) t = reads_at s.shapes (positions ns t) x
 reads_of s scalars (ForallMask beside axes e) t = named_in s.shapes scalars (indices_at axes t) e
 reads_of s scalars (ElementsAssigned masked beside axes a ts e) t = mask_reads scalars masked t ++ named_in s.shapes scalars (indices_at axes t) e
+reads_of s scalars (CopyAssigned axes a ts) t = mask_spot scalars t ∷ []
 reads_of s scalars (OfNest nest asked part) t = conditions_read nest scalars asked t ++ part_read nest scalars s.shapes part t
 reads_of s scalars Redistributed t = []
 
@@ -116,6 +118,7 @@ reads_of s scalars Redistributed t = []
 abbrev pub left_of : Setting → List ℤ → Event → ℕ → Option Spot
 left_of s scalars (SectionAssigned masked beside ns a ds x) t = spot_of s.shapes a (subscripts_at ds (positions ns t))
 left_of s scalars (ElementsAssigned masked beside axes a ts e) t = spot_of s.shapes a (subscripts_in scalars (indices_at axes t) ts)
+left_of s scalars (CopyAssigned axes a ts) t = spot_of s.shapes a (subscripts_in scalars (indices_at axes t) ts)
 left_of s scalars (OfNest nest asked part) t = part_assigned nest scalars s.shapes part t
 left_of s scalars event t = mask_spot scalars t
 
@@ -150,7 +153,7 @@ anchor_over scalars axes (Some a) = anchor_by a.array axes (map (anchor_at scala
 -- an array statement has no indices
 abbrev pub anchor_of : List ℤ → Event → Option Anchor
 anchor_of scalars (SectionAssigned masked beside ns a ds x) = anchor_over scalars [] beside
-anchor_of scalars (WhereMask beside ns x) = anchor_over scalars [] beside
+anchor_of scalars (ValuesCopied beside ns x) = anchor_over scalars [] beside
 anchor_of scalars (ForallMask beside axes t) = anchor_over scalars axes beside
 anchor_of scalars (ElementsAssigned masked beside axes a ts t) = anchor_over scalars axes beside
 anchor_of scalars (OfNest nest asked part) = anchor_over scalars nest.axes nest.beside

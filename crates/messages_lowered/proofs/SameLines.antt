@@ -8,7 +8,7 @@ use Rattle.array_meaning.specs.Forall.{index_extents, indices_at}
 use Rattle.array_meaning.specs.Sections.{extents, positions, subscripts_at}
 use Rattle.array_meaning.specs.Terms.{Term, Terms}
 use Rattle.statement_trail.specs.Anchors.{AnchorText}
-use Rattle.statement_trail.specs.Trail.{Event, Trail, SectionAssigned, WhereMask, Reduced, ForallMask, ElementsAssigned, Redistributed}
+use Rattle.statement_trail.specs.Trail.{Event, Trail, SectionAssigned, ValuesCopied, Reduced, ForallMask, ElementsAssigned, Redistributed}
 use Rattle.array_meaning.specs.declared.sections.Selection.TheVariants.{Along}
 use Rattle.array_meaning.specs.declared.sections.Sequence.{Sequence}
 use Rattle.machine_steps.specs.Layout.{Layout, in_bounds}
@@ -73,7 +73,7 @@ module _ (nodes : ℕ) (names : List (List ℕ)) (shapes : List (List Dim)) (map
     }
 
     copy-same : (copy : ℕ) (q : Evaluation) (beside : Option AnchorText) → copy ≡ length scalars → (ls : List Layout)
-        → par_part ls (parallel.evaluation_tuples s.shapes q) (copy_spot copy) slots ≡ part_of s ls scalars (WhereMask beside (evaluation_extents q slots) (elemental_in slots q.form))
+        → par_part ls (parallel.evaluation_tuples s.shapes q) (copy_spot copy) slots ≡ part_of s ls scalars (ValuesCopied beside (evaluation_extents q slots) (elemental_in slots q.form))
     copy-same copy q beside e ls = λ i. record {
       tuples = space_count (evaluation_extents q slots);
       reads = λ t. reads_at s.shapes (positions (evaluation_extents q slots) t) (elemental_in slots q.form);

@@ -27,7 +27,7 @@ use Rattle.array_meaning.specs.NestLimits.{is_nest_in_limits}
 use Rattle.array_meaning.specs.NestEntry.{unless_clash, entered}
 use Rattle.array_meaning.specs.Execution as meaning
 use Rattle.array_meaning.specs.Execution.{assign_scalar, assign_element, item_bytes, all_item_bytes, print, iterate, condition, run, run_arms, run_block}
-use Rattle.statement_trail.specs.Trail.{Event, Trail, Reduced, WhereMask, SectionAssigned, ForallMask, OfNest, reached, after_value, after_run, over_own_space, value_trail, values_trail, elemental_trail, elementals_trail, selections_trail, control_trail, all_controls_trail, section_trail, where_trail, forall_trail, forall_mask_trail, forall_parts_trail, if_not_empty, shift_trail, transform_trail, item_trail, all_items_trail, block_parts, statement_parts, arms_parts, nest_trail, marked_trail, after_iteration, iterate_trail, trail, arms_trail, block_trail}
+use Rattle.statement_trail.specs.Trail.{Event, Trail, Reduced, ValuesCopied, SectionAssigned, ForallMask, OfNest, reached, after_value, after_run, over_own_space, value_trail, values_trail, elemental_trail, elementals_trail, selections_trail, control_trail, all_controls_trail, section_trail, where_trail, forall_trail, forall_mask_trail, forall_parts_trail, if_not_empty, shift_trail, transform_trail, item_trail, all_items_trail, block_parts, statement_parts, arms_parts, nest_trail, marked_trail, after_iteration, iterate_trail, trail, arms_trail, block_trail}
 use Rattle.statement_trail.specs.Anchors.{AnchorText, forall_anchor, where_anchor}
 use Rattle.statement_trail.specs.NestParts.{EnteredNest, ConditionPart, has_statement, conditions_in, conditions_by, in_trip, indices_after, indices_by, entered_nest}
 use Rattle.nest_syntax.specs.Asked.{tested_asked}
@@ -509,7 +509,7 @@ module _ (n : ℕ) where
       let beside = where_anchor (body ++ others) in
       both (elemental_trail line s mask) _ (elemental-tells line s h mask)
       (valued (elemental [] s mask) _ (λ x.
-      both (over_own_space line s x (WhereMask beside)) _ (own-tells line s h x (WhereMask beside))
+      both (over_own_space line s x (ValuesCopied beside)) _ (own-tells line s h x (ValuesCopied beside))
       (valued (array_value s x) _ (λ m.
       both (where_trail m.extents (mask_of m.elements) beside body s) _ (where-tells m.extents (mask_of m.elements) beside body s h)
       (ran (assign_all_where m.extents (mask_of m.elements) body s) (where_trail m.extents (negated_mask m.elements) beside others)

@@ -18,7 +18,9 @@ pub use Rattle.syntax_tree.specs.Expression
 pub use Rattle.syntax_tree.specs.MainProgram
 pub use Rattle.syntax_tree.specs.Statement
 pub use Rattle.op_tables.specs.Arguments
+pub use Rattle.op_tables.specs.Joins
 pub use Rattle.op_tables.specs.Operators
 pub use Rattle.op_tables.specs.Reductions
+pub use Rattle.op_tables.specs.declared.join.Join
 pub use Rattle.op_tables.specs.declared.op.Op
 pub use Rattle.hpf_base.specs.ElementOrder

@@ -93,11 +93,12 @@ abbrev pub whole_rank : SymbolTable → Expression → ℕ
 whole_rank t (Name x) = rank_of (find x t)
 whole_rank t e = 0
 
--- CSHIFT and TRANSPOSE of a whole array, where it goes into a whole array of this rank (13.14.25 and 13.14.114). SUM_PREFIX has no place yet
+-- CSHIFT, TRANSPOSE and SUM_PREFIX of a whole array, where it goes into a whole array of this rank (13.14.25 and 13.14.114; HPF 2.0, 7.4)
 abbrev pub transforms_to : Context → SymbolTable → ℕ → Op → Parts → Bool
 transforms_to c t rank op.CShift (More (One b) (More (One s) End)) =
     nat_le 1 rank && (nat_eq (whole_rank t b) rank && if_typed is_integer_scalar (type_and_rank c t s))
 transforms_to c t rank op.Transpose (More (One b) End) = nat_eq rank 2 && nat_eq (whole_rank t b) 2
+transforms_to c t rank op.SumPrefix (More (One b) End) = nat_eq rank 1 && nat_eq (whole_rank t b) 1
 transforms_to c t rank o ps = false
 
 abbrev pub is_transformed : Context → SymbolTable → ℕ → Expression → Bool

@@ -72,5 +72,7 @@ pub data Instruction : Type 0 where
   FoldCopy : (copy : ℕ) → Join → (slot : ℕ) → Instruction
   -- a slot gets the element of a copy at the last position where the copy `set` is 1, if there is one and the two lie alike
   LastCopy : (copy set slot : ℕ) → Instruction
+  -- each element of a copy is joined with those before it, where the copy has one dimension and lies in blocks over all nodes; else it stays
+  ScanCopy : (copy : ℕ) → Join → Instruction
   -- arrays get new mappings, one after another (HPF 2.0, 8.3)
   Remap : (line : ℕ) → List NewMapping → Instruction

@@ -1,20 +1,23 @@
 -- Of the claim.
 -- The code of statements and of programs. Each statement takes slots from `b` on anew, and keeps those below.
 use Rattle.std.specs.Prelude.{ℕ, ◌+◌, List, [], ◌∷◌, ◌++◌, length, map, max, reverse, pos, Bool, true, false, Option, Some, None, option_map}
+use Rattle.op_tables.specs.declared.join.Join.TheVariants.{Sum}
 use Rattle.op_tables.specs.declared.op.Op.TheVariants as op
 use Rattle.array_meaning.specs.Terms.{Term, Number, Scalar, Apply, Terms, NoTerm, More, list_of, SectionSubscripts, NoSubscript, Triplet, Control}
 use Rattle.array_meaning.specs.Statements as statements
-use Rattle.array_meaning.specs.Statements.{Item, Text, Value, Elements, SectionAssignment, ElementAssignment, WholeArray, Transformation, CircularShift, Transposition, Loop, Mark, Unmarked, Outermost, Block, Done, Then, Statement, AssignScalar, AssignElement, AssignSection, Transform, If, Do, Where, Forall, Stop, Exit, Cycle, Continue, Redistribute, Arms, NoArm, Arm}
+use Rattle.array_meaning.specs.Statements.{Item, Text, Value, Elements, SectionAssignment, ElementAssignment, WholeArray, Transformation, CircularShift, Transposition, PrefixSum, Loop, Mark, Unmarked, Outermost, Block, Done, Then, Statement, AssignScalar, AssignElement, AssignSection, Transform, If, Do, Where, Forall, Stop, Exit, Cycle, Continue, Redistribute, Arms, NoArm, Arm}
 use Rattle.array_meaning.specs.Forall.{all_subscripts}
 use Rattle.array_meaning.specs.Resolution.{whole}
 use Rattle.array_meaning.specs.Transformations.{has_shape}
 use Rattle.statement_trail.specs.Anchors.{forall_anchor, where_anchor}
 use Rattle.statement_trail.specs.TransformedElements.{first_extent, indices_from, source_element}
-use Rattle.node_code.specs.Flat.{Int, Slot, Operated, NoFlat, AndFlat}
+use Rattle.node_code.specs.declared.nest.NestRole.TheVariants.{Assigns}
+use Rattle.node_code.specs.Flat.{Int, Slot, Axis, Operated, NoFlat, AndFlat}
 use Rattle.node_code.specs.Forms.{Sub, FlatForm, SectionForm}
 use Rattle.node_code.specs.Anchors.{FlatAnchor}
 use Rattle.node_code.specs.Parallel.{When, Assignment, Evaluation}
-use Rattle.node_code.specs.Instructions.{NewMapping, PrintItem, PrintBytes, PrintNumber, PrintSection, Instruction, Set, Store, TestBounds, TestStride, Trips, Jump, JumpIfZero, Halt, Limits, OwnLimits, ForallLimits, OneToOne, Check, Par, ParForall, MakeCopy, ParCopy, ParForallCopy, Verdict, Inside, Print, Remap}
+use Rattle.node_code.specs.NestStatements.{NestStatement, ElementLeft}
+use Rattle.node_code.specs.Instructions.{NewMapping, PrintItem, PrintBytes, PrintNumber, PrintSection, Instruction, Set, Store, TestBounds, TestStride, Trips, Jump, JumpIfZero, Halt, Limits, OwnLimits, ForallLimits, OneToOne, Check, Par, ParForall, ParNest, MakeCopy, ParCopy, ParForallCopy, ScanCopy, Verdict, Inside, Print, Remap}
 use Rattle.program_code.specs.NestCode.{nest_rows, nest_slots, nest_code}
 use Rattle.program_code.specs.ExpressionCode.{slots_of, all_slots_of, subscripts_slots, parts_slots, flat_of, flats_of, subs_of, form_of, code_of, codes_of, subscripts_code, parts_code, control_slots, control_code, copied_evaluation, own_evaluation, index_flat, index_subs, index_form, anchor_code}
 
@@ -190,14 +193,17 @@ turn_operands x by = More by (More (Number (pos (first_extent x))) NoTerm)
 abbrev pub turn_slots : WholeArray → Transformation → ℕ
 turn_slots x (CircularShift by) = slots_of (Apply op.Modulo (turn_operands x by))
 turn_slots x Transposition = 0
+turn_slots x PrefixSum = 0
 
 abbrev pub turn_code : ℕ → ℕ → WholeArray → Transformation → List Instruction
 turn_code line b x (CircularShift by) = code_of line b (Apply op.Modulo (turn_operands x by))
 turn_code line b x Transposition = []
+turn_code line b x PrefixSum = []
 
 abbrev pub turn_in_slot : ℕ → WholeArray → Transformation → Term
 turn_in_slot b x (CircularShift by) = Scalar (b + all_slots_of (turn_operands x by))
 turn_in_slot b x Transposition = Number (pos 0)
+turn_in_slot b x PrefixSum = Number (pos 0)
 
 -- the assignment of elements, over the target's own subscripts, whose triplets stand in slots from b1 on
 abbrev pub transform_assignment : ℕ → (b b1 : ℕ) → WholeArray → WholeArray → Transformation → Assignment
@@ -208,6 +214,36 @@ transform_assignment line b b1 x y how =
 abbrev pub in_order : Transformation → List Sub → List Sub
 in_order (CircularShift by) subs = subs
 in_order Transposition subs = reverse subs
+in_order PrefixSum subs = subs
+
+-- all elements of the source, whose triplets stand in slots from b on, in its own space
+abbrev pub whole_evaluation : ℕ → ℕ → WholeArray → Evaluation
+whole_evaluation line b y = record { line = line; form = SectionForm y.array (subs_of b (whole y.dims)); over = subs_of b (whole y.dims); beside = None }
+
+-- the elements of the target get those of the copy, over its own subscripts, whose triplets stand in slots from b on
+abbrev pub copy_assignment : (copy line : ℕ) → ℕ → WholeArray → NestStatement
+copy_assignment copy line b x = record {
+  line = line;
+  over = subs_of b (whole x.dims);
+  whens = [];
+  copies = copy ∷ [];
+  names = [];
+  left = ElementLeft x.array (index_subs (indices_from 0 x.dims));
+  right = FlatForm (Axis (length x.dims));
+  role = Assigns;
+  beside = None;
+}
+
+-- a prefix sum: the source goes into a copy, in which each element is joined with those before it, and the copy into the target
+abbrev pub prefix_code : (copy line : ℕ) → (b1 b2 : ℕ) → WholeArray → WholeArray → List Instruction
+prefix_code copy line b1 b2 x y =
+    subscripts_code line b2 (whole y.dims)
+    ++ MakeCopy copy (whole_evaluation line b2 y) ∷ ParCopy copy (whole_evaluation line b2 y) ∷ ScanCopy copy Sum ∷ ParNest (copy_assignment copy line b1 x) ∷ []
+
+-- what is done where the shapes agree, which has no fault
+abbrev pub agreed_code : (copy line : ℕ) → (b b1 b2 : ℕ) → WholeArray → WholeArray → Transformation → List Instruction
+agreed_code copy line b b1 b2 x y PrefixSum = prefix_code copy line b1 b2 x y
+agreed_code copy line b b1 b2 x y how = ParForall (transform_assignment line b b1 x y how) ∷ []
 
 -- an assignment to the whole source over the space of the target, which has another shape
 abbrev pub misfit : ℕ → (b1 b2 : ℕ) → WholeArray → WholeArray → Transformation → Assignment
@@ -221,16 +257,16 @@ misfit line b1 b2 x y how = record {
   beside = None;
 }
 
--- what comes after the triplets of the target: its assignment, which has no fault, or Shape
-abbrev pub fitted_code : Bool → ℕ → (b b1 b2 : ℕ) → WholeArray → WholeArray → Transformation → List Instruction
-fitted_code true line b b1 b2 x y how = ParForall (transform_assignment line b b1 x y how) ∷ []
-fitted_code false line b b1 b2 x y how = subscripts_code line b2 (whole y.dims) ++ Limits (misfit line b1 b2 x y how) ∷ []
+-- what comes after the triplets of the target: its assignment, or Shape
+abbrev pub fitted_code : Bool → (copy line : ℕ) → (b b1 b2 : ℕ) → WholeArray → WholeArray → Transformation → List Instruction
+fitted_code true copy line b b1 b2 x y how = agreed_code copy line b b1 b2 x y how
+fitted_code false copy line b b1 b2 x y how = subscripts_code line b2 (whole y.dims) ++ Limits (misfit line b1 b2 x y how) ∷ []
 
-abbrev pub transform_code : ℕ → ℕ → WholeArray → WholeArray → Transformation → List Instruction
-transform_code line b x y how =
+abbrev pub transform_code : (copy line : ℕ) → ℕ → WholeArray → WholeArray → Transformation → List Instruction
+transform_code copy line b x y how =
     let b1 : ℕ = b + turn_slots x how in
     let b2 : ℕ = b1 + subscripts_slots (whole x.dims) in
-    turn_code line b x how ++ (subscripts_code line b1 (whole x.dims) ++ fitted_code (has_shape x y how) line b b1 b2 x y how)
+    turn_code line b x how ++ (subscripts_code line b1 (whole x.dims) ++ fitted_code (has_shape x y how) copy line b b1 b2 x y how)
 
 -- ---- nests of INDEPENDENT loops
 
@@ -310,7 +346,7 @@ module _ (copy : ℕ) (moves : ℕ → List NewMapping) where
         let b1 : ℕ = b + all_slots_of ts in
         codes_of line b ts ++ TestBounds line a (flats_of b ts) ∷ (code_of line b1 t ++ Store line a (flats_of b ts) (flat_of b1 t) ∷ [])
     statement_code line (AssignSection a subs t) b pc leave again = assignment_code line b a subs t None
-    statement_code line (Transform x y how) b pc leave again = transform_code line b x y how
+    statement_code line (Transform x y how) b pc leave again = transform_code copy line b x y how
     statement_code line (If arms other) b pc leave again = arms_code arms (λ pc. block_code other b pc leave again) b pc leave again
     statement_code line (Do mark loop body) b pc leave again =
         let v : ℕ = b + control_slots loop.control in

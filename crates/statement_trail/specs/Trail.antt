@@ -1,7 +1,7 @@
 -- Of the claim.
 -- The trail of a run: the parts of array statements and of nests, and the REDISTRIBUTEs, that are reached, in order, each with the scalars at that
 -- moment and with what is evaluated once for it. It is told beside the meaning, which doesn't know of it.
-use Rattle.std.specs.Prelude.{ℕ, zero, suc, ◌+◌, List, [], ◌∷◌, ◌++◌, ℤ, ◌+ℤ◌, Bool, false, ◌==◌, if◌then◌else◌, is_some, Option, Some, None, unwrap_or, Result, Ok, Err}
+use Rattle.std.specs.Prelude.{ℕ, zero, suc, ◌+◌, List, [], ◌∷◌, ◌++◌, map, ℤ, ◌+ℤ◌, Bool, false, ◌==◌, if◌then◌else◌, is_some, Option, Some, None, unwrap_or, Result, Ok, Err}
 use Rattle.hpf_base.specs.ElementOrder.{product}
 use Rattle.op_tables.specs.declared.op.Op.{Op}
 use Rattle.op_tables.specs.Operators.{wrapped}
@@ -10,18 +10,19 @@ use Rattle.nest_syntax.specs.Statement as syntax
 use Rattle.nest_syntax.specs.Entry.{Entry}
 use Rattle.nest_syntax.specs.Entries.{entries}
 use Rattle.nest_syntax.specs.Terms.{Term, Number, Element, Section, Apply, Reduce, Terms, NoTerm, More, SectionSubscripts, NoSubscript, Subscript, Triplet, Control}
-use Rattle.nest_syntax.specs.Statements.{SectionAssignment, ElementAssignment, WholeArray, Transformation, CircularShift, Transposition, Item, Text, Value, Elements, Nest, Block, Done, Then, Statement, AssignScalar, AssignElement, AssignSection, Transform, If, Do, Where, Forall, Print, Redistribute, Mark, Unmarked, Outermost, Arms, NoArm, Arm}
+use Rattle.nest_syntax.specs.Statements.{SectionAssignment, ElementAssignment, WholeArray, Transformation, CircularShift, Transposition, PrefixSum, Item, Text, Value, Elements, Nest, Block, Done, Then, Statement, AssignScalar, AssignElement, AssignSection, Transform, If, Do, Where, Forall, Print, Redistribute, Mark, Unmarked, Outermost, Arms, NoArm, Arm}
 use Rattle.nest_syntax.specs.Faults.{Cause, ◌>>=◌}
 use Rattle.nest_syntax.specs.State.{State, set_scalar, place_in}
 use Rattle.nest_syntax.specs.Runs.{Completion, Normal, Cycled, Run, normal, one_step}
 use Rattle.nest_syntax.specs.Sequence.{Sequence}
 use Rattle.nest_syntax.specs.Selection.{Selection}
+use Rattle.nest_syntax.specs.Selection.TheVariants.{Along}
 use Rattle.nest_syntax.specs.Sections.{sequence_of, extents, space_size}
-use Rattle.nest_syntax.specs.Elementals.{Elemental, sections, own_extents, own_size, array_value}
+use Rattle.nest_syntax.specs.Elementals.{Elemental, Selected, sections, own_extents, own_size, array_value}
 use Rattle.nest_syntax.specs.Expressions.{value, values, elemental, selections, index_values, all_index_values}
 use Rattle.nest_syntax.specs.ArrayAssignments.{Mask, assign_where, assign_all_where, mask_of, negated_mask}
 use Rattle.nest_syntax.specs.Forall.{index_extents, all_subscripts, check_limits, check_one_to_one, mask_over, assign_forall}
-use Rattle.nest_syntax.specs.Transformations.{has_shape, shift_of}
+use Rattle.nest_syntax.specs.Transformations.{extents_of, has_shape, shift_of}
 use Rattle.nest_syntax.specs.Iterations.{values_of, iteration_count, in_turns}
 use Rattle.nest_syntax.specs.NestEntry.{entered}
 use Rattle.nest_syntax.specs.Execution.{condition, item_bytes, run, run_block}
@@ -34,13 +35,16 @@ use Rattle.nest_syntax.specs.Asked.{Asked, guard_asked, tested_asked}
 pub data Event : Type 0 where
   -- an assignment to a section: whether a mask is over it and what its copy lies beside, the extents of its space, its left side and its right side
   SectionAssigned : (masked : Bool) → (beside : Option AnchorText) → List ℕ → (array : ℕ) → List Selection → Elemental → Event
-  -- the mask of a WHERE, with what its copy lies beside, and the argument of a reduction, each with the extents of its space
-  WhereMask : (beside : Option AnchorText) → List ℕ → Elemental → Event
+  -- the mask of a WHERE, with what its copy lies beside, or the source of a prefix sum, whose copy lies beside nothing, and the argument of a reduction,
+  -- each with the extents of its space
+  ValuesCopied : (beside : Option AnchorText) → List ℕ → Elemental → Event
   Reduced : Op → List ℕ → Elemental → Event
   -- the mask of a FORALL, and one of its assignments or what a circular shift or a transpose is as one, each with what the mask's copy lies beside
   -- and with the values of the indices
   ForallMask : (beside : Option AnchorText) → List Sequence → Term → Event
   ElementsAssigned : (masked : Bool) → (beside : Option AnchorText) → List Sequence → (array : ℕ) → Terms → Term → Event
+  -- the elements of a target, with the values of the indices, get those of a copy, which are prefix sums
+  CopyAssigned : List Sequence → (array : ℕ) → Terms → Event
   -- a part of a nest, at the iterations at which these stored conditions are as asked for
   OfNest : EnteredNest → List Asked → NestPart → Event
   Redistributed : Event
@@ -125,16 +129,23 @@ section_trail mask_extents beside line a subs right s =
     let ns = unwrap_or mask_extents (extents ds) in
     after_value (space_size ns (ds ∷ sections x)) (λ n. reached line s (SectionAssigned (is_some mask_extents) beside ns a ds x))))
 
--- a circular shift or a transpose is one part, that of its assignment of elements
+-- a circular shift or a transpose is one part, that of its assignment of elements; a prefix sum is two, since its source is copied first
 abbrev pub shift_trail : ℕ → State → Transformation → Trail
 shift_trail line s (CircularShift by) = value_trail line s by
 shift_trail line s Transposition = []
+shift_trail line s PrefixSum = []
+
+abbrev pub transformed_trail : WholeArray → WholeArray → Transformation → ℤ → ℕ → State → Trail
+transformed_trail x y PrefixSum k line s =
+    reached line s (ValuesCopied None (extents_of y) (Selected y.array (map Along (axes_of y))))
+    ++ reached line s (CopyAssigned (axes_of x) x.array (indices_from 0 x.dims))
+transformed_trail x y how k line s =
+    reached line s (ElementsAssigned false None (axes_of x) x.array (indices_from 0 x.dims) (source_element x y how (Number (turn_of x k))))
 
 abbrev pub transform_trail : WholeArray → WholeArray → Transformation → ℕ → State → Trail
 transform_trail x y how line s =
     shift_trail line s how ++ after_value (shift_of s how) (λ k.
-    if has_shape x y how then reached line s (ElementsAssigned false None (axes_of x) x.array (indices_from 0 x.dims) (source_element x y how (Number (turn_of x k))))
-    else [])
+    if has_shape x y how then transformed_trail x y how k line s else [])
 
 abbrev pub where_trail : List ℕ → Mask → Option AnchorText → List SectionAssignment → State → Trail
 where_trail ns mask beside [] s = []
@@ -242,7 +253,7 @@ abbrev mutual
   trail (Where mask body others) line s =
       elemental_trail line s mask ++ after_value (elemental [] s mask) (λ x.
       let beside = where_anchor (body ++ others) in
-      over_own_space line s x (WhereMask beside) ++ after_value (array_value s x) (λ m.
+      over_own_space line s x (ValuesCopied beside) ++ after_value (array_value s x) (λ m.
       where_trail m.extents (mask_of m.elements) beside body s
       ++ after_run (assign_all_where m.extents (mask_of m.elements) body s) (where_trail m.extents (negated_mask m.elements) beside others)))
   trail (Forall controls mask body) line s =

@@ -9,7 +9,7 @@ use Rattle.nest_syntax.specs.Dim.{Dim}
 use Rattle.nest_syntax.specs.Dims.{extent}
 use Rattle.nest_syntax.specs.Sequence.{Sequence}
 use Rattle.nest_syntax.specs.Terms.{Term, Number, Index, Element, Apply, Terms, NoTerm, More}
-use Rattle.nest_syntax.specs.Statements.{WholeArray, Transformation, CircularShift, Transposition}
+use Rattle.nest_syntax.specs.Statements.{WholeArray, Transformation, CircularShift, Transposition, PrefixSum}
 use Rattle.nest_syntax.specs.Transformations.{extents_of}
 
 -- ---- the indices
@@ -60,6 +60,7 @@ transposed_subscripts ds es = NoTerm
 abbrev pub source_subscripts : Transformation → Term → (target source : List Dim) → Terms
 source_subscripts (CircularShift by) turn ds es = shifted_subscripts turn ds es
 source_subscripts Transposition turn ds es = transposed_subscripts ds es
+source_subscripts PrefixSum turn ds es = same_places 0 ds es
 
 -- the right side
 abbrev pub source_element : WholeArray → WholeArray → Transformation → Term → Term
