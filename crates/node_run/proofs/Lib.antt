@@ -13,6 +13,9 @@ pub mod PieceLaws
 pub mod Picked
 mod Plain
 mod Ranges
+mod ScannedPieces
+mod PhasesInARow
+mod Scans
 pub mod Reading
 mod Reduces
 mod Remaps

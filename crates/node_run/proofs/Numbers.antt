@@ -8,16 +8,16 @@ use Rattle.hpf_base.specs.declared.node.NodeId.{NodeId}
 use Rattle.node_law.specs.declared.act.Act.TheVariants.{Send, Take}
 use Rattle.node_law.specs.NodeSteps.{NodeSteps, IsMoveOf, Move, Worked, Sent, Taken, AreMovesOf, after_all, node_after, sent, taken}
 use Rattle.node_law.specs.Phases.{next_number}
-use Rattle.storage.specs.Storage.{Spot}
+use Rattle.storage.specs.Storage.{Spot, row_of}
 use Rattle.machine_steps.specs.Agrees.{first_own, standing}
-use Rattle.machine_steps.specs.Instr.{Status, Running, Finished, Faulted, Tuples, Fold, Rounds, Remapping, Item, Text, Elements, Instr, Local as LocalInstr, Fetch, Store, Par, Verdict, Reduce, MakeCopy, FoldCopy, LastCopy, Remap, Print}
+use Rattle.machine_steps.specs.Instr.{Status, Running, Finished, Faulted, Tuples, Fold, Rounds, Remapping, Item, Text, Elements, Instr, Local as LocalInstr, Fetch, Store, Par, Verdict, Reduce, MakeCopy, FoldCopy, LastCopy, Scan, Remap, Print}
 use Rattle.machine_steps.specs.Layout.{sizes}
-use Rattle.machine_steps.specs.Machine.{Machine, instr_at, on, stay, earlier, remapped}
+use Rattle.machine_steps.specs.Machine.{Machine, instr_at, on, stay, earlier, lies_so, remapped}
 use Rattle.machine_steps.specs.Message.{Part, par_part, reduce_part, gather_part, fetch_part, message, remap_message}
-use Rattle.machine_steps.specs.Tree.{levels_of, tree_sends}
+use Rattle.machine_steps.specs.Tree.{levels_of, scan_sends, tree_sends}
 use Rattle.letters.specs.declared.letter.Letter.{Letter}
 use Rattle.letters.specs.Parcel.{Parcel}
-use Rattle.machine_steps.specs.Node.{FaultValues, Node, parcel, Stage, Ready, Passing, Passed, settled, act_of, letter_of as letter_by, after_send_by, after_take_by, opened, opened_on, no_values, kept_values, values_kept, option_values, values_option, positioned_values, values_positioned, join_options, later, verdict_done, reduce_ended, fold_ended, last_ended, own_fold, own_last, tree_absorbed, part_sends, part_opened, remap_sends, local_read, pieces_by, held_or_received, ready, tree_next, fetch_begun, fetch_done, reduce_begun, reduce_done, print_begun, print_done, remap_next, begun_by, done_by, worked_by, node_steps}
+use Rattle.machine_steps.specs.Node.{FaultValues, Node, parcel, Stage, Ready, Passing, Passed, settled, act_of, letter_of as letter_by, after_send_by, after_take_by, opened, opened_on, no_values, kept_values, values_kept, option_values, values_option, positioned_values, values_positioned, join_options, later, verdict_done, reduce_ended, fold_ended, last_ended, own_fold, own_last, tree_absorbed, part_sends, part_opened, remap_sends, local_read, pieces_by, held_or_received, ready, tree_next, fetch_begun, fetch_done, reduce_begun, reduce_done, print_begun, print_done, remap_next, begun_by, done_by, worked_by, node_steps, join_all, scan_ended, scan_next, scan_begun, scan_absorbed}
 
 -- all targets are nodes of so many
 abbrev pub AreTargets : ℕ → List Parcel → Type 0
@@ -141,6 +141,17 @@ module _ {C F : Type 0} (count id : ℕ) (told heard : ℕ → ℕ) where
     print-done (Some (Text bytes)) a h = h
     print-done (Some (Elements tuples element bytes)) a h = (h.0, tt)
 
+    scan-numbered : (copy : ℕ) (f : Fold) (a : Node C F) → Numbers a → IsNumbered (scan_next n copy f a)
+    scan-numbered copy f a h = by_case (nat_lt a.round (levels_of n))
+      where
+        by_case : (b : Bool) → IsNumbered (if b then opened n (scan_sends a.round) (λ q. a.folded) a else scan_ended n copy f a)
+        by_case true = opened-numbered n e (scan_sends a.round) (λ q. a.folded) (record a { received = no_values n }) h
+        by_case false = (h, tt)
+
+    scan-begun : (b : Bool) (copy : ℕ) (f : Fold) (a : Node C F) → IsNumbered a → IsNumbered (scan_begun n b copy f a)
+    scan-begun true copy f a h = scan-numbered copy f (record a { round = 0; folded = option_values (join_all f.join (row_of a.pieces copy)); joined = None }) h.0
+    scan-begun false copy f a h = h
+
     begun : (i : Instr F) (a : Node C F) → IsNumbered a → IsNumbered (begun_by faults n i a)
     begun (LocalInstr f) a h = h
     begun (Fetch element slot) a h = fetch-begun (element a.control.slots) a h
@@ -152,6 +163,7 @@ module _ {C F : Type 0} (count id : ℕ) (told heard : ℕ → ℕ) where
     begun (FoldCopy copy f slot) a h = tree-numbered n e (fold_ended n f slot) (λ b g. (g, tt)) (record a { round = 0; folded = option_values (own_fold n copy f a) }) h.0
     begun (LastCopy copy set alike slot) a h =
         tree-numbered n e (last_ended n slot) (λ b g. (g, tt)) (record a { round = 0; folded = positioned_values (own_last n copy set alike a) }) h.0
+    begun (Scan copy in_blocks f) a h = scan-begun (lies_so in_blocks (slice_get a.layouts copy)) copy f a h
     begun (Remap new rounds) a h = remap-numbered new rounds (record a { received = no_values n; round = 0 }) h.0
     begun (Print items line) a h = print-begun (slice_get items a.substep) line a h
 
@@ -165,6 +177,7 @@ module _ {C F : Type 0} (count id : ℕ) (told heard : ℕ → ℕ) where
     finished (MakeCopy copy layout start) a h = h
     finished (FoldCopy copy f slot) a h = tree-numbered n e (fold_ended n f slot) (λ b g. (g, tt)) (tree_absorbed n (join_options f.join) option_values values_option a) h.0
     finished (LastCopy copy set alike slot) a h = tree-numbered n e (last_ended n slot) (λ b g. (g, tt)) (tree_absorbed n later positioned_values values_positioned a) h.0
+    finished (Scan copy in_blocks f) a h = scan-numbered copy f (scan_absorbed n f a) h.0
     finished (Remap new rounds) a h = remap-numbered new rounds (record a { round = suc a.round }) h.0
     finished (Print items line) a h = print-done (slice_get items a.substep) a h
 

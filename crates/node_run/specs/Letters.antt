@@ -1,17 +1,18 @@
 -- Of a promise.
 -- The letters of a whole run, by the machine with whole arrays.
-use Rattle.std.specs.Prelude.{◌≡◌, ℤ, ◌*◌, ℕ, zero, suc, ◌==◌, ◌&&◌, Bool, List, [], ◌∷◌, ◌++◌, map, length, Option, Some, None, if◌then◌else◌, slice_get}
+use Rattle.std.specs.Prelude.{◌≡◌, ℤ, ◌*◌, ℕ, zero, suc, ◌==◌, ◌&&◌, Bool, true, false, List, [], ◌∷◌, ◌++◌, map, length, Option, Some, None, if◌then◌else◌, slice_get}
 use Rattle.std.specs.List.{range_with_len}
 use Rattle.node_law.specs.Phases.{next_number}
 use Rattle.storage.specs.Storage.{row_of, read}
+use Rattle.prefix_scan.specs.Scan.{scanned}
 use Rattle.reduction_tree.specs.Tree.{after_rounds}
 use Rattle.machine_steps.specs.Agrees.{Own, Exchange, part_exchange, round_exchange, tree_exchanges, part_of, NodesSegment, AreCarried}
-use Rattle.machine_steps.specs.Instr.{Status, Running, Finished, Faulted, Outcome, Nothing, Tuples, Fold, Instr, Local, Fetch, Store, Par, Verdict, Reduce, MakeCopy, FoldCopy, LastCopy, Remap, Print}
-use Rattle.machine_steps.specs.Layout.{Layout, least_owner_of}
-use Rattle.machine_steps.specs.Machine.{Machine, Kept, outcome_of, keep, earlier, lie_alike, is_one, last_passing, instr_at, step}
+use Rattle.machine_steps.specs.Instr.{Status, Running, Finished, Faulted, Outcome, Nothing, Tuples, Fold, Instr, Local, Fetch, Store, Par, Verdict, Reduce, MakeCopy, FoldCopy, LastCopy, Scan, Remap, Print}
+use Rattle.machine_steps.specs.Layout.{Layout, least_owner_of, owned_in, piece}
+use Rattle.machine_steps.specs.Machine.{Machine, Kept, outcome_of, keep, earlier, lies_so, lie_alike, is_one, last_passing, instr_at, step}
 use Rattle.machine_steps.specs.Message.{Part, par_part, reduce_part}
-use Rattle.machine_steps.specs.Node.{FaultValues, kept_values, option_values, positioned_values, join_options, join_below, outcome_value, Positioned, later}
-use Rattle.machine_steps.specs.Tree.{levels_of}
+use Rattle.machine_steps.specs.Node.{FaultValues, kept_values, option_values, positioned_values, join_options, join_below, join_all, outcome_value, Positioned, later}
+use Rattle.machine_steps.specs.Tree.{levels_of, scan_sends}
 use Rattle.letters.specs.declared.letter.Letter.{Letter}
 
 -- what the nodes have each for itself between two steps: the fault that it keeps, and the values of a reduction that it computed, joined
@@ -78,6 +79,20 @@ module _ {C F : Type 0} where
         (λ at. record { at = at; value = read m.rows (record { row = copy; at = at }) }) (length (row_of m.rows copy))
         else None
 
+    -- the elements of a copy that a node owns, joined
+    abbrev pub scan_share : ℕ → Fold → Machine C F → ℕ → Option ℤ
+    scan_share copy f m p = join_all f.join (piece (owned_in m.layouts copy) p (row_of m.rows copy))
+
+    -- so many rounds of a scan from k on: a node sends what it has before the round
+    abbrev pub scan_rounds : ℕ → Fold → Machine C F → (k many : ℕ) → List Exchange
+    scan_rounds copy f m k many =
+        map (λ r. record { sends = scan_sends r; body = λ p q. option_values (scanned (join_options f.join) (scan_share copy f m) r p) }) (range_with_len k many)
+
+    -- all of them, where the copy lies so
+    abbrev pub scan_exchanges : Bool → ℕ → Fold → Machine C F → List Exchange
+    scan_exchanges true copy f m = scan_rounds copy f m 0 (levels_of count)
+    scan_exchanges false copy f m = []
+
     -- the phases of a step, in order: who sends what to whom
     abbrev pub exchanges_of : Instr F → Machine C F → Holds F → List Exchange
     exchanges_of (Local f) m has = []
@@ -91,6 +106,7 @@ module _ {C F : Type 0} where
         tree_exchanges count (λ k p. option_values (after_rounds (join_options f.join) count (fold_share copy f m) k p)) 0 (2 * levels_of count)
     exchanges_of (LastCopy copy set alike slot) m has =
         tree_exchanges count (λ k p. positioned_values (after_rounds later count (last_share copy set alike m) k p)) 0 (2 * levels_of count)
+    exchanges_of (Scan copy in_blocks f) m has = scan_exchanges (lies_so in_blocks (slice_get m.layouts copy)) copy f m
     exchanges_of (Remap new rounds) m has = map (round_exchange count m new rounds) (range_with_len 0 (rounds.many m.layouts))
     exchanges_of (Print items line) m has = part_exchanges m (part_of count m (Print items line))
 
@@ -105,6 +121,7 @@ module _ {C F : Type 0} where
     holds_after (MakeCopy copy layout start) m has = has
     holds_after (FoldCopy copy f slot) m has = has
     holds_after (LastCopy copy set alike slot) m has = has
+    holds_after (Scan copy in_blocks f) m has = record { kept = has.kept; joined = λ p. None }
     holds_after (Remap new rounds) m has = has
     holds_after (Print items line) m has = has
 
