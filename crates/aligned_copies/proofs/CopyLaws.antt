@@ -89,7 +89,7 @@ module _ (n : ℕ) (ns : List ℕ) where
   last-below : (at : ℕ) → at < product (n ∷ ns) → place at < last
   last-below at below = place-below (n ∷ ns) at (length ns) (factors_some (n ∷ ns) (omega arith)) (omega arith)
 
-  last-aligned : (at : ℕ) → at < product (n ∷ ns)
+  pub last-aligned : (at : ℕ) → at < product (n ∷ ns)
       → aligned (Linear (length ns) (pos 1) (pos 0)) (map Some (element_index (copy_shape (n ∷ ns)) at)) ≡ Some (pos (place at + 1))
   last-aligned at below =
       let inside : at < product (extents_of (copy_shape (n ∷ ns))) = omega (arith, below, ap product (extents-back (n ∷ ns))) in
@@ -102,13 +102,13 @@ module _ (n : ℕ) (ns : List ℕ) where
 
 -- ---- the owners
 
-block-below : (extent nodes j : ℕ) → 1 ≤ nodes → 1 ≤ j → j ≤ extent → coordinate (block_line extent nodes) j < nodes
+pub block-below : (extent nodes j : ℕ) → 1 ≤ nodes → 1 ≤ j → j ≤ extent → coordinate (block_line extent nodes) j < nodes
 block-below extent nodes j some begins ends =
     let m = default_block extent nodes in
     lt_of_mul-lt-mul_right m
     (omega (arith, (coordinate-within m j (default_block-some extent nodes) begins).0, default_block-all extent nodes some, mul_comm m nodes, ends))
 
-line-coordinates : (nodes node : ℕ) → node < nodes → node_coordinates (nodes ∷ []) node ≡ node ∷ []
+pub line-coordinates : (nodes node : ℕ) → node < nodes → node_coordinates (nodes ∷ []) node ≡ node ∷ []
 line-coordinates nodes node below =
     let one : product (nodes ∷ []) ≡ nodes = mul-one nodes in
     let number : number_of (nodes ∷ []) (node ∷ []) ≡ node = omega arith in
@@ -123,7 +123,7 @@ line-coordinates nodes node below =
     one_place zero within = below
     one_place (suc k) within = absurd (omega arith)
 
-position-of : (line : Line) (p : ℕ) → line.lower ≡ pos 1 → unsigned_abs (position_at line (pos (p + 1))) ≡ p + 1
+pub position-of : (line : Line) (p : ℕ) → line.lower ≡ pos 1 → unsigned_abs (position_at line (pos (p + 1))) ≡ p + 1
 position-of line p first =
     let is : position_at line (pos (p + 1)) ≡ pos (p + 1) = omega (arith, ints, first) in ap unsigned_abs is
 

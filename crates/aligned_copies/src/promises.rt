@@ -1,12 +1,12 @@
 //! Laws of copies that lie beside arrays.
 
-ghost use Rattle.std.specs.Prelude.{◌≡◌, ℕ, ◌<◌, ◌≤◌, All, List, map, Option, Some, slice_get, true};
+ghost use Rattle.std.specs.Prelude.{◌≡◌, ℕ, ◌<◌, ◌≤◌, All, List, [], ◌∷◌, map, Option, Some, None, slice_get, true};
 ghost use Rattle.hpf_base.specs.declared.limits.TheConstants.{MAX_ELEMENTS};
 ghost use Rattle.mappings.specs.declared.mapping.AlignDim.{AlignDim};
 ghost use Rattle.mappings.specs.Alignment.{composed_align};
 ghost use Rattle.mappings.specs.Mapping.{FitsAlign};
 ghost use Rattle.machine_steps.specs.CopyLayout.{copy_shape};
-ghost use Rattle.machine_steps.specs.Layout.{AreOwned, IsDealt, Layout, element_index, owned_by, size_of};
+ghost use Rattle.machine_steps.specs.Layout.{AreOwned, IsDealt, IsInBlocks, Layout, element_index, owned_by, size_of};
 ghost use Rattle.machine_steps.specs.Space.{space_count};
 ghost use Rattle.aligned_copies.specs.Beside.{Anchor, aligned_layout, beside, is_good, settled, subscript_by};
 ghost use Rattle.aligned_copies.specs.Layouts.{IsLaid};
@@ -29,6 +29,11 @@ pub fn copies_lie_beside()
 pub fn copies_are_dealt()
     ensures { (nodes : ℕ) (layouts : List Layout) (anchor : Option Anchor) (ns : List ℕ) → 1 ≤ nodes → AreOwned nodes layouts
         → IsDealt nodes (aligned_layout nodes layouts anchor ns) }
+{}
+
+/// A copy of one dimension without an anchor lies in blocks, one node's after another's.
+pub fn copies_lie_in_blocks()
+    ensures { (nodes : ℕ) (layouts : List Layout) (n : ℕ) → 1 ≤ nodes → IsInBlocks nodes (aligned_layout nodes layouts None (n ∷ [])) }
 {}
 
 /// How a copy lies depends on the row of its anchor alone.
