@@ -1,4 +1,5 @@
-//! The rules of types and ranks in statements (Fortran 95, 7.4.1.4, 7.5.1.1, 7.5.3, 7.5.4, 8.1.2, 8.1.4, 9.4.2 and 13.14).
+//! The rules of types and ranks in statements (Fortran 95, 7.4.1.4, 7.5.1.1, 7.5.3, 7.5.4, 8.1.2, 8.1.4, 9.4.2 and 13.14;
+//! HPF 2.0, 7.4).
 
 ghost use Rattle.std.specs.Prelude.{◌≡◌, ◌&&◌, ◌||◌, nat_eq, nat_le, [], ◌∷◌, IfOk};
 ghost use Rattle.std.specs.List.{flat_map};
@@ -226,7 +227,7 @@ fn whole_rank(alloc: Global, scope: &Scope<'_>, left: &Ref) -> Result<usize, All
     }
 }
 
-/// Whether CSHIFT or TRANSPOSE of a whole array stands on the right side of a whole array of this rank.
+/// Whether CSHIFT, TRANSPOSE or SUM_PREFIX of a whole array stands on the right side of a whole array of this rank.
 fn is_transformed(
     alloc: Global,
     scope: &Scope<'_>,
@@ -254,6 +255,7 @@ fn transforms_to(
     match op {
         Op::CShift => is_shifted(alloc, scope, rank, arguments),
         Op::Transpose => is_transposed(alloc, scope, rank, arguments),
+        Op::SumPrefix => is_prefix_sum(alloc, scope, rank, arguments),
         _ => Ok(false),
     }
 }
@@ -312,6 +314,32 @@ fn are_transposed(rank: usize, source: usize) -> bool
     ensures { result ≡ (nat_eq rank 2 && nat_eq source 2) }
 {
     rank == 2 && source == 2
+}
+
+/// Whether this is the argument of a SUM_PREFIX: a whole array (HPF 2.0, 7.4).
+fn is_prefix_sum(
+    alloc: Global,
+    scope: &Scope<'_>,
+    rank: usize,
+    arguments: &[Expr],
+) -> Result<bool, AllocError>
+    ensures { IfOk result (λ b. b ≡ transforms_to context.Statement scope.now rank op.SumPrefix (arguments_of arguments.now)) }
+{
+    let Some((source, more)) = arguments.split_first() else {
+        return Ok(false);
+    };
+    if let Some(_) = more.split_first() {
+        return Ok(false);
+    }
+    let source = source_rank(alloc, scope, source)?;
+    Ok(are_summed(rank, source))
+}
+
+/// Whether both ranks of a SUM_PREFIX are 1.
+fn are_summed(rank: usize, source: usize) -> bool
+    ensures { result ≡ (nat_eq rank 1 && nat_eq source 1) }
+{
+    rank == 1 && source == 1
 }
 
 /// The rank of an array that an expression names by itself, and 0 of any other expression.
