@@ -1,4 +1,4 @@
--- Circular shifts and transposes that are computed: what each place of the target gets, and programs with their outcome. What they give was worked out
+-- Circular shifts, transposes and prefix sums that are computed: what each place of the target gets, and programs with their outcome. What they give was worked out
 -- from the rules of the language, and not by these definitions. In the comments a bar stands for the end of a line.
 use Rattle.std.specs.Prelude.{◌≡◌, ℕ, suc, refl, codes, Bool, true, false, List, [], ◌∷◌, ℤ, pos, negsuc, Option, Some, None}
 use Rattle.std.specs.Fmt.{digits}
@@ -8,7 +8,7 @@ use Rattle.name_table.specs.Op.TheVariants as op
 use Rattle.name_table.specs.Expression as e
 use Rattle.name_table.specs.Statement as s
 use Rattle.array_meaning.specs.Terms.{Number}
-use Rattle.array_meaning.specs.Statements.{WholeArray, Transformation, CircularShift, Transposition}
+use Rattle.array_meaning.specs.Statements.{WholeArray, Transformation, CircularShift, Transposition, PrefixSum}
 use Rattle.array_meaning.specs.State.{State, no_array}
 use Rattle.array_meaning.specs.declared.sections.Store.{Store}
 use Rattle.array_meaning.specs.Transformations.{has_shape, transformed}
@@ -40,6 +40,9 @@ shifts k ds es elements results = transformed (target ds) (source es) (CircularS
 
 abbrev transposes : (targets sources : List Dim) → (elements results : List ℤ) → Type 0
 transposes ds es elements results = transformed (target ds) (source es) Transposition (pos 0) (before es elements) ≡ stores_from 0 results
+
+abbrev sums : (targets sources : List Dim) → (elements results : List ℤ) → Type 0
+sums ds es elements results = transformed (target ds) (source es) PrefixSum (pos 0) (before es elements) ≡ stores_from 0 results
 
 abbrev row : ℕ → List Dim
 row m = dim (pos 1) (pos m) ∷ []
@@ -110,6 +113,28 @@ transpose-3 = refl
 transpose-4 : transposes (matrix 0 2) (matrix 2 0) [] []
 transpose-4 = refl
 
+sum-1 : sums (row 4) (row 4) (pos 3 ∷ pos 1 ∷ negsuc 5 ∷ pos 5 ∷ []) (pos 3 ∷ pos 4 ∷ negsuc 1 ∷ pos 3 ∷ [])
+unfolding int_wrap
+sum-1 = refl
+
+-- no element, and one
+sum-2 : sums (row 0) (row 0) [] []
+sum-2 = refl
+
+sum-3 : sums (row 1) (row 1) (negsuc 6 ∷ []) (negsuc 6 ∷ [])
+unfolding int_wrap
+sum-3 = refl
+
+-- each sum is wrapped: one more than the greatest number is the least
+sum-4 : sums (row 3) (row 3) (pos 9223372036854775807 ∷ pos 1 ∷ pos 2 ∷ []) (pos 9223372036854775807 ∷ negsuc 9223372036854775807 ∷ negsuc 9223372036854775805 ∷ [])
+unfolding int_wrap
+sum-4 = refl
+
+-- the bounds of the two say nothing of the places
+sum-5 : sums (dim (pos 0) (pos 2) ∷ []) (dim (negsuc 4) (negsuc 2) ∷ []) (pos 1 ∷ pos 2 ∷ pos 3 ∷ []) (pos 1 ∷ pos 3 ∷ pos 6 ∷ [])
+unfolding int_wrap
+sum-5 = refl
+
 -- ---- shapes
 
 abbrev is_shape : (targets sources : List Dim) → Transformation → Bool
@@ -135,6 +160,12 @@ shape-5 = refl
 shape-6 : is_shape (matrix 2 0) (dim (pos 3) (pos 1) ∷ dim (pos 0) (pos 1) ∷ []) Transposition ≡ true
 shape-6 = refl
 
+shape-7 : is_shape (dim (pos 0) (pos 2) ∷ []) (dim (pos 5) (pos 7) ∷ []) PrefixSum ≡ true
+shape-7 = refl
+
+shape-8 : is_shape (row 2) (row 3) PrefixSum ≡ false
+shape-8 = refl
+
 -- ---- programs
 
 abbrev cshift : e.Expression → e.Expression → e.Expression
@@ -142,6 +173,9 @@ cshift b by = e.Call op.CShift (args (b ∷ by ∷ []))
 
 abbrev transpose : e.Expression → e.Expression
 transpose b = e.Call op.Transpose (args (b ∷ []))
+
+abbrev sum_prefix : e.Expression → e.Expression
+sum_prefix b = e.Call op.SumPrefix (args (b ∷ []))
 
 -- INTEGER :: A(5), B(5), I|FORALL (I=1:5) B(I) = I*I|A = CSHIFT(B, 2)|PRINT *, A|END
 program-1 : outcome (array A (row 5) (pos 0) ∷ array B (row 5) (pos 0) ∷ scalar I (pos 0) ∷ []) (block (
@@ -243,6 +277,36 @@ program-9 : outcome (array A (matrix 2 2) (pos 0) ∷ scalar I (pos 0) ∷ scala
 unfolding int_wrap digits
 program-9 = refl
 
+-- INTEGER :: A(5), B(5), I|FORALL (I=1:5) B(I) = I*I|A = SUM_PREFIX(B)|PRINT *, A|END
+program-16 : outcome (array A (row 5) (pos 0) ∷ array B (row 5) (pos 0) ∷ scalar I (pos 0) ∷ []) (block (
+    at 2 (s.Forall (axis I (n 1) (n 5) ∷ []) None (assign 2 (variable_at B (args (v I ∷ []))) (e.Binary op.Mul (v I) (v I)) ∷ [])) ∷
+    at 3 (s.Assign (variable A) (sum_prefix (v B))) ∷
+    at 4 (s.Print (s.Value (v A) ∷ [])) ∷ []))
+    ≡ record {
+      printed = lines (codes "1 5 14 30 55" ∷ []);
+      end = Finished;
+      arrays = (pos 1 ∷ pos 5 ∷ pos 14 ∷ pos 30 ∷ pos 55 ∷ []) ∷ (pos 1 ∷ pos 4 ∷ pos 9 ∷ pos 16 ∷ pos 25 ∷ []) ∷ [] ∷ [];
+    }
+unfolding int_wrap digits
+program-16 = refl
+
+-- all elements are read before any is assigned
+-- INTEGER :: A(-1:2), I|FORALL (I=-1:2) A(I) = I|A = SUM_PREFIX(A)|END
+program-17 : outcome (array A (dim (negsuc 0) (pos 2) ∷ []) (pos 0) ∷ scalar I (pos 0) ∷ []) (block (
+    at 2 (s.Forall (axis I (e.Unary op.Neg (n 1)) (n 2) ∷ []) None (assign 2 (variable_at A (args (v I ∷ []))) (v I) ∷ [])) ∷
+    at 3 (s.Assign (variable A) (sum_prefix (v A))) ∷ []))
+    ≡ record { printed = []; end = Finished; arrays = (negsuc 0 ∷ negsuc 0 ∷ pos 0 ∷ pos 2 ∷ []) ∷ [] ∷ [] }
+unfolding int_wrap digits
+program-17 = refl
+
+-- INTEGER :: A(0), B(0)|A = SUM_PREFIX(B)|PRINT *, A|END
+program-18 : outcome (array A (row 0) (pos 0) ∷ array B (row 0) (pos 0) ∷ []) (block (
+    at 2 (s.Assign (variable A) (sum_prefix (v B))) ∷
+    at 3 (s.Print (s.Value (v A) ∷ [])) ∷ []))
+    ≡ record { printed = lines ([] ∷ []); end = Finished; arrays = [] ∷ [] ∷ [] }
+unfolding int_wrap digits
+program-18 = refl
+
 -- ---- programs with a fault
 
 -- INTEGER :: A(2), B(3)|A = CSHIFT(B, 1)|END
@@ -288,3 +352,10 @@ program-15 : outcome (array A (matrix 2 1) (pos 0) ∷ []) (block (
     ≡ record { printed = []; end = Faulted record { line = 2; kind = Shape; at = Nowhere }; arrays = (pos 0 ∷ pos 0 ∷ []) ∷ [] }
 unfolding int_wrap digits
 program-15 = refl
+
+-- INTEGER :: A(2), B(3)|A = SUM_PREFIX(B)|END
+program-19 : outcome (array A (row 2) (pos 7) ∷ array B (row 3) (pos 0) ∷ []) (block (
+    at 2 (s.Assign (variable A) (sum_prefix (v B))) ∷ []))
+    ≡ record { printed = []; end = Faulted record { line = 2; kind = Shape; at = Nowhere }; arrays = (pos 7 ∷ pos 7 ∷ []) ∷ (pos 0 ∷ pos 0 ∷ pos 0 ∷ []) ∷ [] }
+unfolding int_wrap digits
+program-19 = refl
