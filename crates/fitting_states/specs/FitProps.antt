@@ -9,7 +9,7 @@ use Rattle.array_meaning.specs.Entry.{Entry}
 use Rattle.array_meaning.specs.What.{What}
 use Rattle.array_meaning.specs.What.TheVariants as what
 use Rattle.array_meaning.specs.Terms.{Term, Number, Scalar, Index, Element, Section, Apply, Reduce, Terms, NoTerm, More, SectionSubscripts, NoSubscript, Subscript, Triplet, Control}
-use Rattle.array_meaning.specs.Statements.{SectionAssignment, ElementAssignment, Transformation, CircularShift, Transposition, Loop, Block, Done, Then, Statement, AssignScalar, AssignElement, AssignSection, Transform, If, Do, Where, Forall, Print, Stop, Exit, Cycle, Continue, Redistribute, Mark, Unmarked, Outermost, Arms, NoArm, Arm}
+use Rattle.array_meaning.specs.Statements.{SectionAssignment, ElementAssignment, Transformation, CircularShift, Transposition, PrefixSum, Loop, Block, Done, Then, Statement, AssignScalar, AssignElement, AssignSection, Transform, If, Do, Where, Forall, Print, Stop, Exit, Cycle, Continue, Redistribute, Mark, Unmarked, Outermost, Arms, NoArm, Arm}
 use Rattle.array_meaning.specs.Resolution.{resolved_block}
 use Rattle.fitting_states.specs.FittingStates.{InitialValueFits, InitialValuesFit, TermFits, TermsFit, SubscriptsFit, ControlFits, MaskFits, SectionAssignmentFits, ElementAssignmentFits, TransformationFits, BlockFits, StatementFits, MarkFits, ArmsFit, ProgramFits}
 
@@ -64,6 +64,7 @@ elements-prop = all-prop ElementAssignmentFits (λ b. two-prop (terms-prop b.sub
 transformation-prop : (how : Transformation) → IsProp (TransformationFits how)
 transformation-prop (CircularShift by) = term-prop by
 transformation-prop Transposition = unit-prop
+transformation-prop PrefixSum = unit-prop
 
 mutual
   block-prop : (b : Block) → IsProp (BlockFits b)

@@ -10,7 +10,7 @@ use Rattle.array_meaning.specs.Entry.{Entry}
 use Rattle.array_meaning.specs.What.{What}
 use Rattle.array_meaning.specs.What.TheVariants as what
 use Rattle.array_meaning.specs.Terms.{Term, Number, Element, Section, Apply, Reduce, Terms, NoTerm, More, SectionSubscripts, NoSubscript, Subscript, Triplet, Control}
-use Rattle.array_meaning.specs.Statements.{SectionAssignment, ElementAssignment, Transformation, CircularShift, Transposition, Block, Done, Then, Statement, AssignScalar, AssignElement, AssignSection, Transform, If, Do, Where, Forall, Mark, Unmarked, Outermost, Arms, NoArm, Arm}
+use Rattle.array_meaning.specs.Statements.{SectionAssignment, ElementAssignment, Transformation, CircularShift, Transposition, PrefixSum, Block, Done, Then, Statement, AssignScalar, AssignElement, AssignSection, Transform, If, Do, Where, Forall, Mark, Unmarked, Outermost, Arms, NoArm, Arm}
 use Rattle.array_meaning.specs.State.{State, scalar, array}
 use Rattle.array_meaning.specs.Resolution.{resolved_block}
 
@@ -72,6 +72,7 @@ ElementAssignmentFits b = TermsFit b.subscripts × TermFits b.right
 abbrev pub TransformationFits : Transformation → Type 0
 TransformationFits (CircularShift by) = TermFits by
 TransformationFits Transposition = Unit {0}
+TransformationFits PrefixSum = Unit {0}
 
 abbrev mutual
   pub BlockFits : Block → Type 0

@@ -29,7 +29,7 @@ use Rattle.array_meaning.specs.Resolution.{alone, constant, constants, dims_of, 
 use Rattle.name_table.proofs.Tests.{HasValue, both, none_some}
 use Rattle.name_table.proofs.TypedOperands.{typed_value}
 use Rattle.well_formed.proofs.Dimensions.{IsFull, declared_found}
-use Rattle.well_formed.proofs.Transformed.{IsMoved, Shifted, Transposed}
+use Rattle.well_formed.proofs.Transformed.{IsMoved, Shifted, Transposed, Summed}
 use Rattle.found_names.specs.FoundNames.{IsScalarName}
 use Rattle.found_names.specs.Inquiries.{AreAnswered, IsAnswered, IsValue, MaybeIsAnswered, PartIsAnswered}
 use Rattle.found_names.specs.Scalars.{Values}
@@ -349,3 +349,4 @@ module _ (t : SymbolTable) (full : (x : Name) (s : Symbol) → find x t ≡ Some
   moved_answered left right (Shifted b k some same scalar) =
       (λ i. absurd (not_true i), (named_answered b (omega (arith, some, same)), (all_answered k (typed_value is_integer_scalar (type_and_rank Statement t k) scalar), tt)))
   moved_answered left right (Transposed b one same) = (λ i. absurd (not_true i), (named_answered b (omega (arith, same)), tt))
+  moved_answered left right (Summed b one same) = (λ i. absurd (not_true i), (named_answered b (omega (arith, same)), tt))

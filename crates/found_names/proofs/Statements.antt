@@ -26,7 +26,7 @@ use Rattle.name_table.specs.declared.names.Entry.{Entry}
 use Rattle.name_table.specs.declared.names.What.{What}
 use Rattle.name_table.specs.declared.names.What.TheVariants as what
 use Rattle.array_meaning.specs.Terms.{Term, Number, Scalar, Index, Element, Section, Apply, Reduce}
-use Rattle.array_meaning.specs.Statements.{Block, CircularShift, Do, Done, ElementAssignment, Loop, SectionAssignment, Then, Transformation, Transposition}
+use Rattle.array_meaning.specs.Statements.{Block, CircularShift, Do, Done, ElementAssignment, Loop, SectionAssignment, Then, Transformation, Transposition, PrefixSum}
 use Rattle.array_meaning.specs.Resolution.{alone, assignment, control_of, dims_of, do_loop, element_assignments, item, item_of, left_of, loop_of, place_of, resolved, resolved_arms, resolved_block, resolved_otherwise, section_assignments, section_subscripts, step_of, term_of, terms_of, to_element, to_section, transform_or, with_inner_unmarked}
 use Rattle.array_meaning.specs.Resolution as resolution
 use Rattle.name_table.proofs.Tests.{HasValue, all_split, both}
@@ -285,6 +285,7 @@ module _ (t : SymbolTable) (full : (x : Name) (s : Symbol) → find x t ≡ Some
   shift_gives : (how : Transformation) → IsShift t how → TransformationGives how
   shift_gives (CircularShift by) (ByScalar x h) = one x h
   shift_gives Transposition shift = tt
+  shift_gives PrefixSum shift = tt
 
   assigned_or : (left : syntax.Variable) (right : Expression) → HasValue (type_and_rank Statement t (designator left)) → (b : Bool) →
       is_right_side Statement t (designator left) right ≡ b → (b || is_transformed Statement t (whole_rank t (designator left)) right) ≡ true → ScalarsAlone (resolved (map entry t) (syntax.Assign left right))

@@ -7,7 +7,7 @@ use Rattle.name_table.specs.declared.names.Entry.{Entry}
 use Rattle.name_table.specs.declared.names.What.{What}
 use Rattle.name_table.specs.declared.names.What.TheVariants as what
 use Rattle.array_meaning.specs.Terms.{Term, Number, Scalar, Index, Element, Section, Apply, Reduce, Terms, NoTerm, More, SectionSubscripts, NoSubscript, Subscript, Triplet, Control}
-use Rattle.array_meaning.specs.Statements.{Item, Text, Value, Elements, SectionAssignment, ElementAssignment, Transformation, CircularShift, Transposition, Block, Done, Then, Statement, AssignScalar, AssignElement, AssignSection, Transform, If, Do, Where, Forall, Print, Stop, Exit, Cycle, Continue, Redistribute, Arms, NoArm, Arm}
+use Rattle.array_meaning.specs.Statements.{Item, Text, Value, Elements, SectionAssignment, ElementAssignment, Transformation, CircularShift, Transposition, PrefixSum, Block, Done, Then, Statement, AssignScalar, AssignElement, AssignSection, Transform, If, Do, Where, Forall, Print, Stop, Exit, Cycle, Continue, Redistribute, Arms, NoArm, Arm}
 
 -- what a place asks of an expression: one value, or a value at each tuple of positions, which may be the same at all
 pub data Asked : Type 0 where
@@ -49,6 +49,7 @@ MaskedGives x = SubscriptsGive 0 x.subscripts × Gives Values 0 x.right
 abbrev pub TransformationGives : Transformation → Type 0
 TransformationGives (CircularShift by) = Gives OneValue 0 by
 TransformationGives Transposition = ⊤
+TransformationGives PrefixSum = ⊤
 
 abbrev pub IndexedGives : ℕ → ElementAssignment → Type 0
 IndexedGives indices x = AllGive OneValue indices x.subscripts × Gives OneValue indices x.right

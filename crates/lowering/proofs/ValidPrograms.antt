@@ -14,7 +14,7 @@ use Rattle.op_tables.specs.declared.op.Op.TheVariants as op
 use Rattle.op_tables.specs.Operators.{can_divide}
 use Rattle.array_meaning.specs.Terms.{Term, Number, Scalar, Index, Element, Section, Apply, Reduce, Terms, NoTerm, More, list_of, SectionSubscripts, NoSubscript, Subscript, Triplet, Control}
 use Rattle.array_meaning.specs.Statements as statements
-use Rattle.array_meaning.specs.Statements.{Loop, Mark, Unmarked, Outermost, Item, Text, Value, Elements, SectionAssignment, ElementAssignment, WholeArray, Transformation, CircularShift, Transposition, Block, Done, Then, Statement, AssignScalar, AssignElement, AssignSection, Transform, If, Do, Where, Forall, Stop, Exit, Cycle, Continue, Redistribute, Arms, NoArm, Arm}
+use Rattle.array_meaning.specs.Statements.{Loop, Mark, Unmarked, Outermost, Item, Text, Value, Elements, SectionAssignment, ElementAssignment, WholeArray, Transformation, CircularShift, Transposition, PrefixSum, Block, Done, Then, Statement, AssignScalar, AssignElement, AssignSection, Transform, If, Do, Where, Forall, Stop, Exit, Cycle, Continue, Redistribute, Arms, NoArm, Arm}
 use Rattle.statement_trail.specs.Anchors.{AtTerm, are_all_foreknown, section_terms, where_anchor}
 use Rattle.array_meaning.specs.Forall.{subscripts_in, subscripts_in_all, mask_subscripts, body_subscripts}
 use Rattle.array_meaning.specs.Resolution.{whole}
@@ -26,9 +26,9 @@ use Rattle.node_code.specs.Forms.{Sub, ArrayForm, FlatForm, SectionForm, Operati
 use Rattle.node_code.specs.Parallel.{When, Evaluation}
 use Rattle.code_meaning.specs.Parallel.{shape_of}
 use Rattle.node_code.specs.Instructions.{NewMapping, Instruction, Jump, JumpIfZero, Halt, MakeCopy, Remap, Set, Trips}
-use Rattle.code_meaning.specs.ValidCode.{CodeTable, flat_count, IsCopy, IsFlat, AreFlats, IsValue, IsReference, IsElement, IsSub, IsSection, IsSpace, IsForm, AreForms, IsMask, IsAnchorSub, IsAnchor, IsAssignment, IsEvaluation, IsItem, IsValid, IsValidNodeCode, is_closed}
+use Rattle.code_meaning.specs.ValidCode.{CodeTable, flat_count, IsCopy, IsFlat, AreFlats, IsValue, IsReference, IsElement, IsSub, IsSection, IsSpace, IsForm, AreForms, IsMask, IsAnchorSub, IsAnchor, IsAssignment, IsEvaluation, IsNestStatement, IsItem, IsValid, IsValidNodeCode, is_closed}
 use Rattle.program_code.specs.ExpressionCode.{one_if, slots_of, all_slots_of, parts_slots, all_parts_slots, subscripts_slots, control_slots, operated_flat, flat_of, flats_of, subs_of, form_of, forms_of, set_if, three_code, first_subs, first_subs_of, or_no_sub, copied_evaluation, own_evaluation, reduce_code, code_of, codes_of, subscripts_code, parts_code, all_parts_code, control_code, index_flat, index_flats, index_subs, index_form, index_forms, anchor_sub_code, anchor_code}
-use Rattle.program_code.specs.StatementCode.{Masking, entry_code, item_slots, items_slots, item_code, items_code, print_item, print_items, loop_code, arm_code, assignment, assignment_code, masked_slots, masked_code, where_true, where_beside, where_code, triplets, one_to_one_code, forall_beside, forall_mask_code, forall_assignments_code, forall_code, turn_operands, turn_slots, turn_code, turn_in_slot, transform_assignment, in_order, misfit, fitted_code, transform_code, statement_slots, arms_slots, block_slots, block_copies, statement_code, arms_code, block_code, program_code, statement_copies, arms_copies}
+use Rattle.program_code.specs.StatementCode.{Masking, entry_code, item_slots, items_slots, item_code, items_code, print_item, print_items, loop_code, arm_code, assignment, assignment_code, masked_slots, masked_code, where_true, where_beside, where_code, triplets, one_to_one_code, forall_beside, forall_mask_code, forall_assignments_code, forall_code, turn_operands, turn_slots, turn_code, turn_in_slot, transform_assignment, in_order, misfit, fitted_code, transform_code, statement_slots, arms_slots, block_slots, block_copies, statement_code, arms_code, block_code, program_code, statement_copies, arms_copies, whole_evaluation, copy_assignment, agreed_code}
 use Rattle.lowered_expressions.specs.WellFormed.{IsScalar, AreScalar, AreScalarSubscripts, IsArray, AreArrays, IsControl, AreControls, AreMasked, IsSubscript, AreSubscripts, IsIndexed, AreIndexed, IsIndexedMask, AreIndexedAssignments, AreItems, IsTransformation, IsWellFormed, AreWellFormedArms, IsWellFormedBlock}
 use Rattle.lowered_expressions.specs.Anchors.{IsAnchorTerm, IsAnchorText}
 use Rattle.lowered_expressions.proofs.Anchors.{where-anchored, masked-append}
@@ -101,6 +101,7 @@ source_counted : (how : Transformation) (turn : Term) (ds es : List Dim) → len
     length (index_subs (source_subscripts how turn ds es)) ≡ length es
 source_counted (CircularShift by) turn ds es same rank = shifted_counted turn ds es same
 source_counted Transposition turn ds es same rank = transposed_counted ds es rank (same ∙ rank)
+source_counted PrefixSum turn ds es same rank = places_counted 0 ds es same
 
 -- `n` names are declared, and no array has more than 7 dimensions
 module _ (table : CodeTable) (n : ℕ) (declared : length table.shapes ≡ n) (few : AreFewDims table.shapes) (roomy : n ≤ table.slots) where
@@ -630,6 +631,7 @@ module _ (table : CodeTable) (n : ℕ) (declared : length table.shapes ≡ n) (f
     source-good Transposition turn (d ∷ d' ∷ []) (e ∷ e' ∷ []) ok le =
         (from-good e (above_lower 1 d') (above-good 1 d' (omega (arith, le))), (from-good e' (above_lower 0 d) (above-good 0 d (omega (arith, le))), tt))
     source-good Transposition turn ds es ok le = tt
+    source-good PrefixSum turn ds es ok le = places-good 0 ds es le
 
   -- over the subscripts of a whole array
   whole-space : (b : ℕ) (x : WholeArray) → IsDeclared table.shapes x → b + subscripts_slots (whole x.dims) ≤ table.slots → IsSpace table (subs_of b (whole x.dims))
@@ -645,17 +647,20 @@ module _ (table : CodeTable) (n : ℕ) (declared : length table.shapes ≡ n) (f
       AllValid (turn_code line b x how)
   turn-good line b x (CircularShift by) ok ranked le = term-good line b (Apply op.Modulo (turn_operands x by)) (ok, (tt, tt)) (ranked, (tt, tt)) le
   turn-good line b x Transposition ok ranked le = tt
+  turn-good line b x PrefixSum ok ranked le = tt
 
   turn-flat : (axes b : ℕ) (x : WholeArray) (how : Transformation) → b + turn_slots x how ≤ table.slots → IsFlat table axes (index_flat (turn_in_slot b x how))
   turn-flat axes b x (CircularShift by) le = let more : b + (all_slots_of (turn_operands x by) + 1) ≤ table.slots = le in omega (arith, more)
   turn-flat axes b x Transposition le = tt
+  turn-flat axes b x PrefixSum le = tt
 
   ordered-space : (how : Transformation) (over : List Sub) → IsSpace table over → IsSpace table (in_order how over)
   ordered-space (CircularShift by) over space = space
+  ordered-space PrefixSum over space = space
   ordered-space Transposition over space = (omega (arith, space.0, length-reverse over), all_reversed (IsSub table 0) over space.1)
 
-  module _ (line b b1 b2 : ℕ) (x y : WholeArray) (how : Transformation) (xs : x.array < n) (ys : y.array < n) (ranks : AreTransformed table.shapes x y how)
-      (turns : b + turn_slots x how ≤ table.slots) (target : b1 + subscripts_slots (whole x.dims) ≤ table.slots)
+  module _ (copy line b b1 b2 : ℕ) (is-copy : IsCopy table copy) (x y : WholeArray) (how : Transformation) (xs : x.array < n) (ys : y.array < n)
+      (ranks : AreTransformed table.shapes x y how) (turns : b + turn_slots x how ≤ table.slots) (target : b1 + subscripts_slots (whole x.dims) ≤ table.slots)
       (source : b2 + subscripts_slots (whole y.dims) ≤ table.slots) where
     assigned-good : IsAssignment table (length (subs_of b1 (whole x.dims))) (transform_assignment line b b1 x y how)
     assigned-good =
@@ -684,18 +689,54 @@ module _ (table : CodeTable) (n : ℕ) (declared : length table.shapes ≡ n) (f
       tt,
     )
 
-    fitted-good : (fits : Bool) → AllValid (fitted_code fits line b b1 b2 x y how)
-    fitted-good true = (assigned-good, tt)
+    whole-evaluated : IsEvaluation table 0 (whole_evaluation line b2 y)
+    whole-evaluated = (
+      section-good 0 b2 y.array (whole y.dims) ys (whole-scalar n y.dims) (whole-counted y.dims ∙ ap length ranks.1.0) source,
+      whole-space b2 y ranks.1 source,
+      tt,
+    )
+
+    copy-evaluated : IsEvaluation table (length (subs_of b2 (whole y.dims))) (whole_evaluation line b2 y)
+    copy-evaluated = (
+      section-good (length (subs_of b2 (whole y.dims))) b2 y.array (whole y.dims) ys (whole-scalar n y.dims) (whole-counted y.dims ∙ ap length ranks.1.0) source,
+      whole-space b2 y ranks.1 source,
+      tt,
+    )
+
+    copy-assigned : IsNestStatement table (copy_assignment copy line b1 x)
+    copy-assigned =
+        let over : List Sub = subs_of b1 (whole x.dims) in
+        let axes : length over ≡ length x.dims = subs_counted b1 (whole x.dims) ∙ whole-counted x.dims in
+        record {
+          over = whole-space b1 x ranks.0 target;
+          whens = tt;
+          copies = (is-copy, tt);
+          left = (
+            reference x.array (length (index_subs (indices_from 0 x.dims))) xs (indices_counted 0 x.dims ∙ ap length ranks.0.0),
+            indices-good (length over) 0 x.dims (omega (arith, axes)),
+          );
+          right = omega (arith, axes);
+          beside = tt;
+        }
+
+    agreed-good : (how' : Transformation) → how ≡ how' → AllValid (agreed_code copy line b b1 b2 x y how')
+    agreed-good (CircularShift by) e = (subst (λ h. IsAssignment table (length (subs_of b1 (whole x.dims))) (transform_assignment line b b1 x y h)) e assigned-good, tt)
+    agreed-good Transposition e = (subst (λ h. IsAssignment table (length (subs_of b1 (whole x.dims))) (transform_assignment line b b1 x y h)) e assigned-good, tt)
+    agreed-good PrefixSum e = join (subscripts_code line b2 (whole y.dims)) _ (whole-good line b2 y source)
+        ((is-copy, copy-evaluated), ((is-copy, whole-evaluated), (is-copy, (copy-assigned, tt))))
+
+    fitted-good : (fits : Bool) → AllValid (fitted_code fits copy line b b1 b2 x y how)
+    fitted-good true = agreed-good how refl
     fitted-good false = join (subscripts_code line b2 (whole y.dims)) _ (whole-good line b2 y source) (misfit-good, tt)
 
-  transform-good : (line b : ℕ) (x y : WholeArray) (how : Transformation) → IsWellFormed n (Transform x y how) → KeepsRanks table.shapes (Transform x y how) →
-      b + (turn_slots x how + (subscripts_slots (whole x.dims) + subscripts_slots (whole y.dims))) ≤ table.slots → AllValid (transform_code line b x y how)
-  transform-good line b x y how ok ranked le =
+  transform-good : (copy line b : ℕ) → IsCopy table copy → (x y : WholeArray) (how : Transformation) → IsWellFormed n (Transform x y how) → KeepsRanks table.shapes (Transform x y how) →
+      b + (turn_slots x how + (subscripts_slots (whole x.dims) + subscripts_slots (whole y.dims))) ≤ table.slots → AllValid (transform_code copy line b x y how)
+  transform-good copy line b is-copy x y how ok ranked le =
       let b1 : ℕ = b + turn_slots x how in
       let b2 : ℕ = b1 + subscripts_slots (whole x.dims) in
       join (turn_code line b x how) _ (turn-good line b x how ok.2 ranked.1 (omega (arith, le)))
       (join (subscripts_code line b1 (whole x.dims)) _ (whole-good line b1 x (omega (arith, le)))
-      (fitted-good line b b1 b2 x y how ok.0 ok.1 ranked.0 (omega (arith, le)) (omega (arith, le)) (omega (arith, le)) (has_shape x y how)))
+      (fitted-good copy line b b1 b2 is-copy x y how ok.0 ok.1 ranked.0 (omega (arith, le)) (omega (arith, le)) (omega (arith, le)) (has_shape x y how)))
 
   module _ (copied : 1 ≤ table.copies) (moves : ℕ → List NewMapping) (moving : (line : ℕ) → IsValid table (Remap line (moves line))) where
     is-copy : IsCopy table n
@@ -734,7 +775,7 @@ module _ (table : CodeTable) (n : ℕ) (declared : length table.shapes ≡ n) (f
           )
       statement-good (AssignSection a subs t) line b pc leave again ok forms ranked room le within away round =
           assignment-good line b a subs t None tt ok.0 ok.1 ok.2 ranked.0 ranked.1 le
-      statement-good (Transform x y how) line b pc leave again ok forms ranked room le within away round = transform-good line b x y how ok ranked le
+      statement-good (Transform x y how) line b pc leave again ok forms ranked room le within away round = transform-good n line b is-copy x y how ok ranked le
       statement-good (If arms other) line b pc leave again ok forms ranked room le within away round =
           let more : b + max (arms_slots arms) (block_slots other) ≤ table.slots = le in
           arms-good arms (λ pc. block_code n moves other b pc leave again) b pc leave again ok.0 forms.0 ranked.0 (omega (arith, room)) (omega (arith, more)) within away round

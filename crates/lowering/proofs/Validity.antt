@@ -3,18 +3,19 @@ use Rattle.std.proofs.Common.{◌≡◌, ℕ, zero, suc, ◌+◌, ◌≤◌, Lis
 use Rattle.std.specs.Bool.{⊤}
 use Rattle.std.specs.List.{AllByRecursion}
 use Rattle.hpf_base.specs.declared.index.Shape.{Shape}
+use Rattle.op_tables.specs.declared.join.Join.TheVariants.{Sum}
 use Rattle.op_tables.specs.declared.op.Op.TheVariants as op
 use Rattle.op_tables.specs.Operators.{can_divide}
 use Rattle.op_tables.specs.Reductions.{reduction_of}
 use Rattle.array_meaning.specs.Terms.{Term, Number, Scalar, Index, Element, Section, Apply, Reduce, Terms, NoTerm, More, SectionSubscripts, NoSubscript, Subscript, Triplet, Control}
 use Rattle.array_meaning.specs.Statements as statements
-use Rattle.array_meaning.specs.Statements.{Mark, Unmarked, Outermost, Item, Text, Value, Elements, SectionAssignment, ElementAssignment, WholeArray, Transformation, CircularShift, Transposition, Block, Done, Then, Statement, AssignScalar, AssignElement, AssignSection, Transform, If, Do, Where, Forall, Stop, Exit, Cycle, Continue, Redistribute, Arms, NoArm, Arm}
+use Rattle.array_meaning.specs.Statements.{Mark, Unmarked, Outermost, Item, Text, Value, Elements, SectionAssignment, ElementAssignment, WholeArray, Transformation, CircularShift, Transposition, PrefixSum, Block, Done, Then, Statement, AssignScalar, AssignElement, AssignSection, Transform, If, Do, Where, Forall, Stop, Exit, Cycle, Continue, Redistribute, Arms, NoArm, Arm}
 use Rattle.array_meaning.specs.Resolution.{whole}
 use Rattle.array_meaning.specs.Transformations.{has_shape}
 use Rattle.node_code.specs.Instructions.{NewMapping, Instruction, Remap}
 use Rattle.code_meaning.specs.Beside.{Anchor}
-use Rattle.code_meaning.specs.Instructions.{ArrayTable, meaning_of}
-use Rattle.machine_steps.specs.Layout.{AreOwned, IsDealt, Layout}
+use Rattle.code_meaning.specs.Instructions.{ArrayTable, lies_alone, meaning_of}
+use Rattle.machine_steps.specs.Layout.{AreOwned, IsDealt, IsInBlocks, Layout}
 use Rattle.machine_steps.specs.SameLayouts.{is_same_layout}
 use Rattle.machine_steps.specs.Machine.{instr_of}
 use Rattle.machine_steps.specs.Agrees.{IsValidInstr, IsValidCode}
@@ -23,7 +24,7 @@ use Rattle.node_code.specs.Anchors.{FlatAnchor}
 use Rattle.node_code.specs.Forms.{Sub}
 use Rattle.node_code.specs.Parallel.{When}
 use Rattle.program_code.specs.ExpressionCode.{slots_of, parts_slots, subscripts_slots, control_slots, set_if, three_code, code_of, codes_of, subscripts_code, parts_code, all_parts_code, control_code}
-use Rattle.program_code.specs.StatementCode.{Masking, marked_code, entry_code, loop_code, item_slots, item_code, items_code, assignment_code, masked_code, triplets, one_to_one_code, forall_mask_code, forall_assignments_code, turn_operands, turn_slots, turn_code, fitted_code, transform_code, statement_code, arms_code, block_code, program_code}
+use Rattle.program_code.specs.StatementCode.{Masking, marked_code, entry_code, loop_code, item_slots, item_code, items_code, assignment_code, masked_code, triplets, one_to_one_code, forall_mask_code, forall_assignments_code, turn_operands, turn_slots, turn_code, agreed_code, fitted_code, transform_code, statement_code, arms_code, block_code, program_code}
 use Rattle.lowered_expressions.specs.WellFormed.{IsScalar, AreScalar, AreScalarSubscripts, IsArray, AreArrays, IsControl, AreControls, AreMasked, AreItems, IsTransformation, IsWellFormed, AreWellFormedArms, IsWellFormedBlock}
 use Rattle.program_code.specs.NestCode.{nest_code}
 use Rattle.lowering.proofs.NestValidity.{IsOfNests}
@@ -34,6 +35,7 @@ use Rattle.lowering.proofs.Wholes.{whole-scalar}
 module _ (count n : ℕ) (shapes : List Shape) (table : ArrayTable) (moves : ℕ → List NewMapping) (few : length shapes ≤ n)
     (dealt : (layouts : List Layout) → AreOwned count layouts → (anchor : Option Anchor) (ns : List ℕ) → IsDealt count (table.copies layouts anchor ns))
     (same : (one other : Layout) → is_same_layout one other ≡ true → one ≡ other)
+    (blocks : (layout : Layout) → lies_alone table layout ≡ true → IsInBlocks count layout)
     (moving : (line : ℕ) → IsValidInstr count shapes (meaning_of table (Remap line (moves line)))) where
   abbrev AllValid : List Instruction → Type 0
   AllValid [] = ⊤
@@ -130,13 +132,21 @@ module _ (count n : ℕ) (shapes : List Shape) (table : ArrayTable) (moves : ℕ
   turn-valid : (line b : ℕ) (x : WholeArray) (how : Transformation) → IsTransformation n how → AllValid (turn_code line b x how)
   turn-valid line b x (CircularShift by) ok = term-valid line b (Apply op.Modulo (turn_operands x by)) (ok, (tt, tt))
   turn-valid line b x Transposition ok = tt
+  turn-valid line b x PrefixSum ok = tt
 
-  fitted-valid : (fits : Bool) (line b b1 b2 : ℕ) (x y : WholeArray) (how : Transformation) → AllValid (fitted_code fits line b b1 b2 x y how)
-  fitted-valid true line b b1 b2 x y how = (tt, tt)
+  agreed-valid : (line b b1 b2 : ℕ) (x y : WholeArray) (how : Transformation) → AllValid (agreed_code n line b b1 b2 x y how)
+  agreed-valid line b b1 b2 x y (CircularShift by) = (tt, tt)
+  agreed-valid line b b1 b2 x y Transposition = (tt, tt)
+  agreed-valid line b b1 b2 x y PrefixSum =
+      both (subscripts_code line b2 (whole y.dims)) _ (subscripts-valid line b2 (whole y.dims) (whole-scalar n y.dims))
+      ((few, λ layouts declared owned slots. dealt layouts owned _ _), (tt, ((fold-is Sum, blocks), (tt, tt))))
+
+  fitted-valid : (fits : Bool) (line b b1 b2 : ℕ) (x y : WholeArray) (how : Transformation) → AllValid (fitted_code fits n line b b1 b2 x y how)
+  fitted-valid true line b b1 b2 x y how = agreed-valid line b b1 b2 x y how
   fitted-valid false line b b1 b2 x y how =
       both (subscripts_code line b2 (whole y.dims)) _ (subscripts-valid line b2 (whole y.dims) (whole-scalar n y.dims)) (tt, tt)
 
-  transform-valid : (line b : ℕ) (x y : WholeArray) (how : Transformation) → IsTransformation n how → AllValid (transform_code line b x y how)
+  transform-valid : (line b : ℕ) (x y : WholeArray) (how : Transformation) → IsTransformation n how → AllValid (transform_code n line b x y how)
   transform-valid line b x y how ok =
       let b1 : ℕ = b + turn_slots x how in
       both (turn_code line b x how) _ (turn-valid line b x how ok)

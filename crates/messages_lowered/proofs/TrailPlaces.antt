@@ -5,7 +5,7 @@ use Rattle.std.proofs.lemmas.List.{length-set}
 use Rattle.hpf_base.specs.ElementOrder.{product}
 use Rattle.op_tables.specs.Operators.{wrapped}
 use Rattle.array_meaning.specs.Terms.{Term, Number, Scalar, Index, Element, Section, Apply, Reduce, Terms, NoTerm, More, SectionSubscripts, NoSubscript, Subscript, Triplet, Control, list_of}
-use Rattle.array_meaning.specs.Statements.{SectionAssignment, ElementAssignment, WholeArray, Transformation, CircularShift, Transposition, Item, Text, Value, Elements, Nest, Block, Done, Then, Statement, AssignScalar, AssignElement, AssignSection, Transform, If, Do, Where, Forall, Print, Stop, Exit, Cycle, Continue, Redistribute, Mark, Unmarked, Outermost, Arms, NoArm, Arm}
+use Rattle.array_meaning.specs.Statements.{SectionAssignment, ElementAssignment, WholeArray, Transformation, CircularShift, Transposition, PrefixSum, Item, Text, Value, Elements, Nest, Block, Done, Then, Statement, AssignScalar, AssignElement, AssignSection, Transform, If, Do, Where, Forall, Print, Stop, Exit, Cycle, Continue, Redistribute, Mark, Unmarked, Outermost, Arms, NoArm, Arm}
 use Rattle.array_meaning.specs.declared.faults.FaultKind.{FaultKind}
 use Rattle.array_meaning.specs.declared.faults.FaultKind.TheVariants.{Shape, SpaceLimit, NotOneToOne}
 use Rattle.array_meaning.specs.Faults.{Cause, ◌>>=◌, fails}
@@ -27,7 +27,7 @@ use Rattle.array_meaning.specs.NestLimits.{is_nest_in_limits}
 use Rattle.array_meaning.specs.NestEntry.{unless_clash, entered}
 use Rattle.array_meaning.specs.Execution as meaning
 use Rattle.array_meaning.specs.Execution.{assign_scalar, assign_element, item_bytes, all_item_bytes, print, iterate, condition, run, run_arms, run_block}
-use Rattle.statement_trail.specs.Trail.{Event, Trail, Reduced, ValuesCopied, SectionAssigned, ForallMask, OfNest, reached, after_value, after_run, over_own_space, value_trail, values_trail, elemental_trail, elementals_trail, selections_trail, control_trail, all_controls_trail, section_trail, where_trail, forall_trail, forall_mask_trail, forall_parts_trail, if_not_empty, shift_trail, transform_trail, item_trail, all_items_trail, block_parts, statement_parts, arms_parts, nest_trail, marked_trail, after_iteration, iterate_trail, trail, arms_trail, block_trail}
+use Rattle.statement_trail.specs.Trail.{Event, Trail, Reduced, ValuesCopied, SectionAssigned, ForallMask, OfNest, reached, after_value, after_run, over_own_space, value_trail, values_trail, elemental_trail, elementals_trail, selections_trail, control_trail, all_controls_trail, section_trail, where_trail, forall_trail, forall_mask_trail, forall_parts_trail, if_not_empty, shift_trail, transformed_trail, transform_trail, item_trail, all_items_trail, block_parts, statement_parts, arms_parts, nest_trail, marked_trail, after_iteration, iterate_trail, trail, arms_trail, block_trail}
 use Rattle.statement_trail.specs.Anchors.{AnchorText, forall_anchor, where_anchor}
 use Rattle.statement_trail.specs.NestParts.{EnteredNest, ConditionPart, has_statement, conditions_in, conditions_by, in_trip, indices_after, indices_by, entered_nest}
 use Rattle.nest_syntax.specs.Asked.{tested_asked}
@@ -362,11 +362,17 @@ module _ (n : ℕ) where
     shift-tells : (how : Transformation) → HavePlaces n (shift_trail line s how)
     shift-tells (CircularShift by) = value-tells by
     shift-tells Transposition = tt
+    shift-tells PrefixSum = tt
 
     transform-tells : (x y : WholeArray) (how : Transformation) → HavePlaces n (transform_trail x y how line s)
     transform-tells x y how =
         both (shift_trail line s how) _ (shift-tells how)
-        (valued (shift_of s how) _ (λ k. if-tells (has_shape x y how) _ (h, tt)))
+        (valued (shift_of s how) _ (λ k. if-tells (has_shape x y how) _ (transformed-tells how k)))
+      where
+        transformed-tells : (how : Transformation) (k : ℤ) → HavePlaces n (transformed_trail x y how k line s)
+        transformed-tells (CircularShift by) k = (h, tt)
+        transformed-tells Transposition k = (h, tt)
+        transformed-tells PrefixSum k = (h, (h, tt))
 
     forall-mask-tells : (beside : Option AnchorText) (axes : List Sequence) (mask : Option Term) → HavePlaces n (forall_mask_trail line s beside axes mask)
     forall-mask-tells beside axes None = tt

@@ -20,7 +20,7 @@ use Rattle.name_table.specs.Places.{AssignedTo, Place, Requirement, whole_rank}
 use Rattle.body_forms.specs.Names.{is_scalar}
 use Rattle.body_forms.specs.Subexpressions.{subexpressions, subexpressions_in_part, subexpressions_in_parts, subexpressions_in_maybe}
 use Rattle.well_formed.proofs.Dimensions.{declared_found}
-use Rattle.well_formed.proofs.Transformed.{IsMoved, Shifted, Transposed}
+use Rattle.well_formed.proofs.Transformed.{IsMoved, Shifted, Transposed, Summed}
 use Rattle.well_formed.proofs.RankedStatements.{IsPlaced, ArePlaced}
 use Rattle.name_table.proofs.Tests.{both}
 use Rattle.nest_standing.specs.Named.{is_array_in, names_arrays}
@@ -173,6 +173,7 @@ module _ (context : Context) (t : SymbolTable) where
       pass_both (subexpressions b) (subexpressions k ++ []) (whole_arrays b (subst (λ r. 1 ≤ r) (sym same) some))
       (pass_both (subexpressions k) [] (typed_arrays k (typed_some is_integer_scalar (type_and_rank context t k) scalar)) refl)
   moved_arrays left x (Transposed b two_left two_right) = pass_both (subexpressions b) [] (whole_arrays b (omega (arith, two_right))) refl
+  moved_arrays left x (Summed b one_left one_right) = pass_both (subexpressions b) [] (whole_arrays b (omega (arith, one_right))) refl
 
   placed_array : (r : Requirement) (x : Expression) → IsPlaced context t r x → Passes (subexpressions x)
   placed_array (AssignedTo left) x (inl h) = typed_arrays x h

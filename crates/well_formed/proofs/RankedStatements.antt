@@ -27,7 +27,7 @@ use Rattle.name_table.specs.RankRules.{rank_breaches_at}
 use Rattle.name_table.specs.Uses.{allows, repeats}
 use Rattle.name_table.specs.declared.names.Entry.{Entry}
 use Rattle.array_meaning.specs.Terms.{Element, Scalar, Section, Term}
-use Rattle.array_meaning.specs.Statements.{Block, CircularShift, Do, Done, ElementAssignment, Loop, SectionAssignment, Then, Transformation, Transposition}
+use Rattle.array_meaning.specs.Statements.{Block, CircularShift, Do, Done, ElementAssignment, Loop, SectionAssignment, Then, Transformation, Transposition, PrefixSum}
 use Rattle.array_meaning.specs.Resolution.{assignment, control_of, do_loop, element_assignments, item, item_of, left_of, loop_of, resolved, resolved_arms, resolved_block, resolved_otherwise, section_assignments, step_of, term_of, to_element, to_section, transform_or, with_inner_unmarked}
 use Rattle.lowering.specs.Ranks.{ArmsKeepRanks, BlockKeepsRanks, IsRanked, IsRankedControl, IsRankedIndexed, IsRankedItem, IsRankedMask, IsRankedMasked, IsRankedTransformation, KeepsRanks}
 use Rattle.name_table.proofs.Tests.{HasValue, all_split, both, empties, fails, holds, no_reason}
@@ -208,6 +208,7 @@ module _ (t : SymbolTable) (full : (x : Name) (s : Symbol) → find x t ≡ Some
   shift_ranked : (how : Transformation) → IsShift t how → IsRankedTransformation (shapes_in names) how
   shift_ranked (CircularShift by) (ByScalar x h) = scalar_ranked x (typed_value is_integer_scalar (type_and_rank Statement t x) h)
   shift_ranked Transposition shift = tt
+  shift_ranked PrefixSum shift = tt
 
   assigned_or : (left : syntax.Variable) (right : Expression) → IsTyped Statement t (designator left) → IsPlaced Statement t (AssignedTo (designator left)) right →
       KeepsRanks (shapes_in names) (resolved names (syntax.Assign left right))

@@ -1,4 +1,4 @@
--- An assignment that is a circular shift or a transpose: its right side has no type, and both arrays have the dimensions that are declared.
+-- An assignment that is a circular shift, a transpose or a prefix sum: its right side has no type, and both arrays have the dimensions that are declared.
 use Rattle.std.proofs.Common.{◌≡◌, ℕ, ◌≤◌, true, [], length, map, Option, Some, None, refl, sym, ap, subst, ◌∙◌, arith}
 use Rattle.std.specs.Prelude.{◌&&◌, nat_eq, nat_le}
 use Rattle.std.proofs.lemmas.Bool.{eqb-true}
@@ -16,7 +16,7 @@ use Rattle.expression_rules.specs.Types.{if_typed, is_integer_scalar, type_and_r
 use Rattle.name_table.specs.Entries.{entry, what_is}
 use Rattle.name_table.specs.Places.{is_transformed, transforms_to, whole_rank}
 use Rattle.array_meaning.specs.Statements as statements
-use Rattle.array_meaning.specs.Statements.{CircularShift, Transform, Transformation, Transposition, WholeArray}
+use Rattle.array_meaning.specs.Statements.{CircularShift, Transform, Transformation, Transposition, PrefixSum, WholeArray}
 use Rattle.array_meaning.specs.Resolution.{array_of, place_of, term_of, transform_between, transform_or, transformation_by, transformation_of, whole_array}
 use Rattle.lowering.specs.Ranks.{AreTransformed, IsDeclared}
 use Rattle.name_table.proofs.Tests.{HasValue, both, no_value}
@@ -29,15 +29,17 @@ untransformed t (e.Call o ps) h = called o ps h
     called : (o : Op) (ps : Parts) → HasValue (type_and_rank Statement t (e.Call o ps)) → transformation_by (map entry t) o ps ≡ None
     called op.CShift (e.More (e.One b) (e.More (e.One by) e.End)) h = absurd (no_value h)
     called op.Transpose (e.More (e.One b) e.End) h = absurd (no_value h)
+    called op.SumPrefix (e.More (e.One b) e.End) h = absurd (no_value h)
     called o ps h = refl
 untransformed t x h = refl
 
--- ---- a circular shift or a transpose into this left side
+-- ---- a transformation into this left side
 
 pub data IsMoved (c : Context) (t : SymbolTable) (left : Expression) : Expression → Type 0 where
   Shifted : (b k : Expression) → 1 ≤ whole_rank t left → whole_rank t b ≡ whole_rank t left → if_typed is_integer_scalar (type_and_rank c t k) ≡ true →
       IsMoved c t left (e.Call op.CShift (e.More (e.One b) (e.More (e.One k) e.End)))
   Transposed : (b : Expression) → whole_rank t left ≡ 2 → whole_rank t b ≡ 2 → IsMoved c t left (e.Call op.Transpose (e.More (e.One b) e.End))
+  Summed : (b : Expression) → whole_rank t left ≡ 1 → whole_rank t b ≡ 1 → IsMoved c t left (e.Call op.SumPrefix (e.More (e.One b) e.End))
 
 some_rank : (n : ℕ) → nat_le 1 n ≡ true → 1 ≤ n
 some_rank n h = grind (arith, nat_tests)
@@ -53,6 +55,9 @@ is_moved c t left (e.Call o ps) h = by o ps h
     by op.Transpose (e.More (e.One b) e.End) h =
         let two = both (nat_eq (whole_rank t left) 2) (nat_eq (whole_rank t b) 2) h in
         Transposed b (eqb-true (whole_rank t left) 2 two.0) (eqb-true (whole_rank t b) 2 two.1)
+    by op.SumPrefix (e.More (e.One b) e.End) h =
+        let two = both (nat_eq (whole_rank t left) 1) (nat_eq (whole_rank t b) 1) h in
+        Summed b (eqb-true (whole_rank t left) 1 two.0) (eqb-true (whole_rank t b) 1 two.1)
     by o ps h = absurd (no_value h)
 is_moved c t left x h = absurd (no_value h)
 
@@ -60,6 +65,7 @@ is_moved c t left x h = absurd (no_value h)
 pub data IsShift (t : SymbolTable) : Transformation → Type 0 where
   ByScalar : (x : Expression) → if_typed is_integer_scalar (type_and_rank Statement t x) ≡ true → IsShift t (CircularShift (term_of (map entry t) [] x))
   Unshifted : IsShift t Transposition
+  Unturned : IsShift t PrefixSum
 
 module _ (t : SymbolTable) (full : (x : Name) (s : Symbol) → find x t ≡ Some s → IsFull s) where
   -- an expression that names an array by itself
@@ -105,3 +111,7 @@ module _ (t : SymbolTable) (full : (x : Name) (s : Symbol) → find x t ≡ Some
         let x = is_whole left (omega (arith, one)) in
         let y = is_whole b (omega (arith, same)) in
         between b Transposition x y (x.declared, y.declared, y.rank ∙ same ∙ sym (x.rank ∙ one), x.rank ∙ one) Unshifted
+    transformed right (Summed b one same) =
+        let x = is_whole left (omega (arith, one)) in
+        let y = is_whole b (omega (arith, same)) in
+        between b PrefixSum x y (x.declared, y.declared, y.rank ∙ same ∙ sym (x.rank ∙ one), x.rank ∙ one) Unturned
