@@ -1,11 +1,13 @@
 -- Statements whose numbers are of 64 bits keep the state of 64 bits.
-use Rattle.std.proofs.Common.{ℕ, zero, suc, ◌++◌, ◌==◌, drop, List, [], ◌∷◌, map, get_or, Bool, true, false, if◌then◌else◌, Option, Some, None, Result, Ok, Err, IfOk, ℤ, pos, ◌+ℤ◌, FitsSigned, w64}
+use Rattle.std.proofs.Common.{ℕ, zero, suc, ◌+◌, ◌++◌, ◌==◌, drop, fold, take, List, [], ◌∷◌, map, Bool, true, false, if◌then◌else◌, Option, Some, None, Result, Ok, Err, IfOk, ℤ, pos, ◌+ℤ◌, FitsSigned, w64, arith}
 use Rattle.std.specs.Bool.{⊤}
 use Rattle.std.specs.List.{AllByRecursion, range_with_len}
 use Rattle.hpf_base.specs.ElementOrder.{product}
 use Rattle.op_tables.specs.Operators.{wrapped}
 use Rattle.array_meaning.specs.Terms.{Term, Terms, SectionSubscripts, Control, list_of}
-use Rattle.array_meaning.specs.Statements.{SectionAssignment, ElementAssignment, WholeArray, Transformation, Item, Block, Done, Then, Statement, AssignScalar, AssignElement, AssignSection, Transform, If, Do, Where, Forall, Print, Stop, Exit, Cycle, Continue, Redistribute, Mark, Unmarked, Outermost, Arms, NoArm, Arm}
+use Rattle.op_tables.specs.declared.join.Join.TheVariants.{Sum}
+use Rattle.op_tables.specs.Joins.{join}
+use Rattle.array_meaning.specs.Statements.{SectionAssignment, ElementAssignment, WholeArray, Transformation, CircularShift, Transposition, PrefixSum, Item, Block, Done, Then, Statement, AssignScalar, AssignElement, AssignSection, Transform, If, Do, Where, Forall, Print, Stop, Exit, Cycle, Continue, Redistribute, Mark, Unmarked, Outermost, Arms, NoArm, Arm}
 use Rattle.array_meaning.specs.declared.faults.FaultKind.{FaultKind}
 use Rattle.array_meaning.specs.declared.faults.FaultKind.TheVariants.{Shape, SpaceLimit, NotOneToOne}
 use Rattle.array_meaning.specs.Faults.{Cause, ◌>>=◌, fails}
@@ -19,7 +21,7 @@ use Rattle.array_meaning.specs.Elementals.{Elemental, sections, value_at, each, 
 use Rattle.array_meaning.specs.Expressions.{value, values, elemental, selections, index_values, all_index_values}
 use Rattle.array_meaning.specs.ArrayAssignments.{Mask, mask_of, negated_mask, store_at, if_true, assign_elemental, assign_section, assign_where, assign_all_where, run_where}
 use Rattle.array_meaning.specs.Forall.{index_extents, indices_at, all_subscripts, check, check_limits, check_one_to_one, is_forall_in_limits, is_one_to_one, mask_over, assign_forall, assign_all_forall, run_forall}
-use Rattle.array_meaning.specs.Transformations.{extents_of, source_place, shift_of, has_shape, transformed, transform}
+use Rattle.array_meaning.specs.Transformations.{extents_of, shifted_place, transposed_place, value_at as transformed_value, shift_of, has_shape, transformed, transform}
 use Rattle.array_meaning.specs.Iterations.{nest_axes, iteration_count}
 use Rattle.array_meaning.specs.Touches.{iteration_touches}
 use Rattle.array_meaning.specs.Clashes.{Clash, first_clash}
@@ -215,18 +217,28 @@ forall_fits line controls mask body f s h =
 
 -- ---- transformations of whole arrays
 
--- elements of one array at these places of another one
-moved_fit : (y : ℕ) (place : ℕ → ℕ) (s : State) → StateFits s → (ts : List ℕ)
-    → AllByRecursion StoreFits (map (λ t. Some record { place = t; value = get_or (array s y).elements (place t) (pos 0) }) ts)
-moved_fit y place s h [] = tt
-moved_fit y place s h (t ∷ ts) = (h.elements y (place t), moved_fit y place s h ts)
+-- sums wrap
+sums_fit : (values : List ℤ) (a : ℤ) → FitsSigned w64 a → FitsSigned w64 (fold (join Sum) a values)
+sums_fit [] a h = h
+sums_fit (v ∷ values) a h = sums_fit values (join Sum a v) (wraps_fit (a +ℤ v))
+
+value_fits_at : (y : ℕ) (how : Transformation) (k : ℤ) (ns : List ℕ) (s : State) → StateFits s → (t : ℕ) → FitsSigned w64 (transformed_value how k ns (array s y).elements t)
+value_fits_at y (CircularShift by) k ns s h t = h.elements y (shifted_place k ns t)
+value_fits_at y Transposition k ns s h t = h.elements y (transposed_place ns t)
+value_fits_at y PrefixSum k ns s h t = sums_fit (take (t + 1) (array s y).elements) (pos 0) (omega arith)
+
+-- the values of a transformation
+transformed_fit : (y : ℕ) (how : Transformation) (k : ℤ) (ns : List ℕ) (s : State) → StateFits s → (ts : List ℕ)
+    → AllByRecursion StoreFits (map (λ t. Some record { place = t; value = transformed_value how k ns (array s y).elements t }) ts)
+transformed_fit y how k ns s h [] = tt
+transformed_fit y how k ns s h (t ∷ ts) = (value_fits_at y how k ns s h t, transformed_fit y how k ns s h ts)
 
 pub transform_fits : (x y : WholeArray) (how : Transformation) (s : State) → StateFits s → IfOk (transform x y how s) StateFits
 transform_fits x y how s h =
     let to : ℤ → Result State Cause = λ k. Ok (store_all s x.array (transformed x y how k s)) in
     then_has (λ k. ⊤) StateFits (shift_of s how) (λ k. if has_shape x y how then to k else fails Shape) (has_any (shift_of s how)) (λ k any.
     if_fits (has_shape x y how) (to k) (fails Shape)
-    (store_all_fits x.array s (transformed x y how k s) h (moved_fit y.array (source_place how k (extents_of x)) s h (range_with_len 0 (product (extents_of x))))) tt)
+    (store_all_fits x.array s (transformed x y how k s) h (transformed_fit y.array how k (extents_of x) s h (range_with_len 0 (product (extents_of x))))) tt)
 
 -- ---- PRINT
 

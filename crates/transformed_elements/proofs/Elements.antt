@@ -1,5 +1,5 @@
 -- A circular shift or a transpose of a whole array is an assignment of its elements.
-use Rattle.std.proofs.Common.{◌≡◌, ℕ, zero, suc, ◌+◌, ◌*◌, ◌/◌, ◌%◌, ◌<◌, ◌≤◌, List, [], ◌∷◌, ◌++◌, length, map, reverse, slice_index_or, ℤ, pos, true, Option, Some, Result, Ok, refl, sym, ap, ◌∙◌, subst, arith}
+use Rattle.std.proofs.Common.{◌≡◌, ℕ, zero, suc, ◌+◌, ◌*◌, ◌/◌, ◌%◌, ◌<◌, ◌≤◌, ◌≢◌, List, [], ◌∷◌, ◌++◌, length, map, reverse, slice_index_or, ℤ, pos, true, Option, Some, Result, Ok, refl, sym, ap, ◌∙◌, subst, arith}
 use Rattle.std.proofs.lemmas.List.FromFn.{map-range_with_len_more}
 use Rattle.std.proofs.lemmas.Nat.{column_fits, mod_below}
 use Rattle.std.proofs.lemmas.Slice.Eq.{bytes_eq-Decides}
@@ -13,9 +13,9 @@ use Rattle.array_meaning.specs.Expressions.{value, values}
 use Rattle.array_meaning.specs.Faults.{Cause, ◌>>=◌, at_tuple}
 use Rattle.array_meaning.specs.Forall.{assign_forall, indices_at}
 use Rattle.array_meaning.specs.State.{State, array, element, element_place, if_in_bounds, place_in, store_all}
-use Rattle.array_meaning.specs.Statements.{WholeArray, Transformation, CircularShift, Transposition}
+use Rattle.array_meaning.specs.Statements.{WholeArray, Transformation, CircularShift, Transposition, PrefixSum}
 use Rattle.array_meaning.specs.Terms.{Term, Number}
-use Rattle.array_meaning.specs.Transformations.{extents_of, has_shape, shifted_place, source_place, transformed, transposed_place}
+use Rattle.array_meaning.specs.Transformations.{extents_of, has_shape, shifted_place, transformed, transposed_place, value_at}
 use Rattle.array_meaning.specs.declared.sections.Store.{Store}
 use Rattle.statement_trail.specs.TransformedElements.{axes_of, indices_from, source_element, source_subscripts, turn_of}
 use Rattle.transformed_elements.proofs.Places.{first-place, indices-are, place-is, subscripts_of}
@@ -23,6 +23,18 @@ use Rattle.transformed_elements.proofs.Shifts.{residue, turned-place}
 use Rattle.transformed_elements.proofs.Values.{left-values, shifted-values, transposed-values}
 
 -- ---- places of the source
+
+-- the place whose element comes to a place of the target, by a shift or by a transpose
+abbrev pub source_place : Transformation → ℤ → List ℕ → ℕ → ℕ
+source_place (CircularShift by) k ns t = shifted_place k ns t
+source_place Transposition k ns t = transposed_place ns t
+source_place PrefixSum k ns t = t
+
+value-by-place : (how : Transformation) (k : ℤ) (ns : List ℕ) (elements : List ℤ) (t : ℕ) → how ≢ PrefixSum
+    → value_at how k ns elements t ≡ slice_index_or elements (source_place how k ns t) (pos 0)
+value-by-place (CircularShift by) k ns elements t moves = refl
+value-by-place Transposition k ns elements t moves = refl
+value-by-place PrefixSum k ns elements t moves = absurd (moves refl)
 
 shifted-below : (k : ℤ) (ns : List ℕ) (t : ℕ) → t < product ns → shifted_place k ns t < product ns
 shifted-below k [] t below = below
@@ -50,12 +62,13 @@ target-subscripts s x t known below = ap (λ js. values js s (indices_from 0 x.d
 
 module _ (x y : WholeArray) where
   -- the place that the transformation takes is one of the source
-  source-place-below : (how : Transformation) (k : ℤ) (t : ℕ) → has_shape x y how ≡ true → length y.dims ≡ length x.dims
+  source-place-below : (how : Transformation) (k : ℤ) (t : ℕ) → how ≢ PrefixSum → has_shape x y how ≡ true → length y.dims ≡ length x.dims
       → (how ≡ Transposition → length x.dims ≡ 2) → t < product (extents_of x) → source_place how k (extents_of x) t < product (extents_of y)
-  source-place-below (CircularShift by) k t fits even rank below =
+  source-place-below PrefixSum k t moves fits even rank below = absurd (moves refl)
+  source-place-below (CircularShift by) k t moves fits even rank below =
       let same : extents_of y ≡ extents_of x = (bytes_eq-Decides (extents_of y) (extents_of x)).0 fits in
       subst (λ ns. shifted_place k (extents_of x) t < product ns) (sym same) (shifted-below k (extents_of x) t below)
-  source-place-below Transposition k t fits even rank below =
+  source-place-below Transposition k t moves fits even rank below =
       by_dims x.dims y.dims ((bytes_eq-Decides (reverse (extents_of y)) (extents_of x)).0 fits) (rank refl) even below
     where
       by_dims : (ds es : List Dim) → reverse (map extent es) ≡ map extent ds → length ds ≡ 2 → length es ≡ length ds → t < product (map extent ds)
@@ -68,10 +81,10 @@ module _ (x y : WholeArray) where
       by_dims ds es same two even below = absurd (omega (arith, two, even))
 
   -- the subscripts of that place name an element of the source
-  pub source-named : (how : Transformation) (k : ℤ) (t : ℕ) → has_shape x y how ≡ true → length y.dims ≡ length x.dims
+  pub source-named : (how : Transformation) (k : ℤ) (t : ℕ) → how ≢ PrefixSum → has_shape x y how ≡ true → length y.dims ≡ length x.dims
       → (how ≡ Transposition → length x.dims ≡ 2) → t < product (extents_of x)
       → element_place y.dims (subscripts_of y.dims (source_place how k (extents_of x) t)) ≡ Some (source_place how k (extents_of x) t)
-  source-named how k t fits even rank below = place-is y.dims (source_place how k (extents_of x) t) (source-place-below how k t fits even rank below)
+  source-named how k t moves fits even rank below = place-is y.dims (source_place how k (extents_of x) t) (source-place-below how k t moves fits even rank below)
 
 -- the right side
 abbrev source : WholeArray → WholeArray → Transformation → ℤ → Term
@@ -79,27 +92,28 @@ source x y how k = source_element x y how (Number (turn_of x k))
 
 -- what is stored at a tuple, and its evaluation
 abbrev store_of : State → WholeArray → WholeArray → Transformation → ℤ → ℕ → Option Store
-store_of s x y how k t = Some record { place = t; value = slice_index_or (array s y.array).elements (source_place how k (extents_of x) t) (pos 0) }
+store_of s x y how k t = Some record { place = t; value = value_at how k (extents_of x) (array s y.array).elements t }
 
 abbrev stored_at : State → WholeArray → WholeArray → Transformation → ℤ → ℕ → Result (Option Store) Cause
 stored_at s x y how k t =
     let at = indices_at (axes_of x) t in values at s (indices_from 0 x.dims) >>= (λ is. store_at s x.array is (value at s (source x y how k)))
 
-module _ (s : State) (x y : WholeArray) (how : Transformation) (k : ℤ) (known : AreDims x.dims) (own : AreDims y.dims) (fits : has_shape x y how ≡ true)
+module _ (s : State) (x y : WholeArray) (how : Transformation) (k : ℤ) (known : AreDims x.dims) (own : AreDims y.dims) (moves : how ≢ PrefixSum) (fits : has_shape x y how ≡ true)
     (even : length y.dims ≡ length x.dims) (rank : how ≡ Transposition → length x.dims ≡ 2) where
   -- the right side has the subscripts of the place that the transformation takes
   pub source-subscripts : (t : ℕ) → t < product (extents_of x)
       → values (indices_at (axes_of x) t) s (source_subscripts how (Number (turn_of x k)) x.dims y.dims)
       ≡ Ok (subscripts_of y.dims (source_place how k (extents_of x) t))
   source-subscripts t below =
-      ap (λ js. values js s (source_subscripts how (Number (turn_of x k)) x.dims y.dims)) (indices-are x.dims t known.each below) ∙ by_how how fits rank
+      ap (λ js. values js s (source_subscripts how (Number (turn_of x k)) x.dims y.dims)) (indices-are x.dims t known.each below) ∙ by_how how moves fits rank
     where
-      by_how : (how : Transformation) → has_shape x y how ≡ true → (how ≡ Transposition → length x.dims ≡ 2)
+      by_how : (how : Transformation) → how ≢ PrefixSum → has_shape x y how ≡ true → (how ≡ Transposition → length x.dims ≡ 2)
           → values (subscripts_of x.dims t) s (source_subscripts how (Number (turn_of x k)) x.dims y.dims)
           ≡ Ok (subscripts_of y.dims (source_place how k (extents_of x) t))
-      by_how (CircularShift by) fits rank =
+      by_how PrefixSum moves fits rank = absurd (moves refl)
+      by_how (CircularShift by) moves fits rank =
           shifted-values s k x.dims y.dims t ((bytes_eq-Decides (extents_of y) (extents_of x)).0 fits) known.each own.each below
-      by_how Transposition fits rank =
+      by_how Transposition moves fits rank =
           transposed-values s x.dims y.dims t ((bytes_eq-Decides (reverse (extents_of y)) (extents_of x)).0 fits) (rank refl) even known.each own.each below
 
   -- the element of the source is stored in the target's
@@ -110,9 +124,10 @@ module _ (s : State) (x y : WholeArray) (how : Transformation) (k : ℤ) (known 
       let left : place_in s x.array (subscripts_of x.dims t) ≡ Ok t =
       ap (λ ds. if_in_bounds (element_place ds (subscripts_of x.dims t))) dims ∙ ap if_in_bounds (place-is x.dims t below) in
       let right : place_in s y.array (subscripts_of y.dims from) ≡ Ok from =
-      ap (λ ds. if_in_bounds (element_place ds (subscripts_of y.dims from))) dims' ∙ ap if_in_bounds (source-named x y how k t fits even rank below) in
-      let taken : value (indices_at (axes_of x) t) s (source x y how k) ≡ Ok (slice_index_or (array s y.array).elements from (pos 0)) =
-      ap (λ r. r >>= element s y.array) (source-subscripts t below) ∙ ap (λ r. r >>= (λ p. Ok (slice_index_or (array s y.array).elements p (pos 0)))) right in
+      ap (λ ds. if_in_bounds (element_place ds (subscripts_of y.dims from))) dims' ∙ ap if_in_bounds (source-named x y how k t moves fits even rank below) in
+      let taken : value (indices_at (axes_of x) t) s (source x y how k) ≡ Ok (value_at how k (extents_of x) (array s y.array).elements t) =
+      ap (λ r. r >>= element s y.array) (source-subscripts t below) ∙ ap (λ r. r >>= (λ p. Ok (slice_index_or (array s y.array).elements p (pos 0)))) right
+      ∙ ap Ok (sym (value-by-place how k (extents_of x) (array s y.array).elements t moves)) in
       ap (λ r. r >>= (λ is. store_at s x.array is (value (indices_at (axes_of x) t) s (source x y how k)))) (target-subscripts s x t known below)
       ∙ (λ i. left i >>= (λ p. taken i >>= (λ v. Ok (Some record { place = p; value = v }))))
 
@@ -130,12 +145,12 @@ each-is tuple f g (suc n) same =
 
 -- the assignment stores what the transformation does
 pub transforms-as-elements : (s : State) (x y : WholeArray) (how : Transformation) (k : ℤ) (line : ℕ) → (array s x.array).dims ≡ x.dims
-    → (array s y.array).dims ≡ y.dims → AreDims x.dims → AreDims y.dims → has_shape x y how ≡ true → length y.dims ≡ length x.dims
+    → (array s y.array).dims ≡ y.dims → AreDims x.dims → AreDims y.dims → how ≢ PrefixSum → has_shape x y how ≡ true → length y.dims ≡ length x.dims
     → (how ≡ Transposition → length x.dims ≡ 2)
     → assign_forall (axes_of x) (product (extents_of x)) (λ t. true)
     record { line = line; array = x.array; subscripts = indices_from 0 x.dims; right = source_element x y how (Number (turn_of x k)) } s
     ≡ Ok (store_all s x.array (transformed x y how k s))
-transforms-as-elements s x y how k line dims dims' known own fits even rank =
+transforms-as-elements s x y how k line dims dims' known own moves fits even rank =
     ap (λ r. r >>= (λ stores. Ok (store_all s x.array stores)))
     (each-is (indices_at (axes_of x)) (stored_at s x y how k) (store_of s x y how k) (product (extents_of x))
-    (stored-element s x y how k known own fits even rank dims dims'))
+    (stored-element s x y how k known own moves fits even rank dims dims'))
