@@ -93,7 +93,7 @@ pub values-append : (rows : Storage) (xs ys : List (Option Spot)) → values_of 
 values-append rows [] ys = refl
 values-append rows (x ∷ xs) ys = ap (λ vs. value_by (read rows) x ∷ vs) (values-append rows xs ys)
 
-value-here : (pre : List ℤ) (v : ℤ) (post : List ℤ) → slice_index_or (pre ++ v ∷ post) (length pre) (pos 0) ≡ v
+pub value-here : (pre : List ℤ) (v : ℤ) (post : List ℤ) → slice_index_or (pre ++ v ∷ post) (length pre) (pos 0) ≡ v
 value-here [] v post = refl
 value-here (w ∷ pre) v post = value-here pre v post
 

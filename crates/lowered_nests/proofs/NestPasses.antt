@@ -1,5 +1,5 @@
 -- What the machine passes over the statements of a nest is the nest's parts.
-use Rattle.std.proofs.Common.{◌≡◌, ℕ, zero, suc, ◌+◌, ◌<◌, ◌≤◌, ⊎_elim, nat_eq, List, [], ◌∷◌, ◌++◌, length, map, ℤ, pos, Bool, true, false, Option, Some, None, unwrap_or, if◌then◌else◌, refl, sym, ap, ◌∙◌, subst, arith, slice_get, length-set, get_or-set_same, get_or-set_other}
+use Rattle.std.proofs.Common.{◌≡◌, ℕ, zero, suc, ◌+◌, ◌<◌, ◌≤◌, inl, ⊎_elim, nat_eq, List, [], ◌∷◌, ◌++◌, length, map, ℤ, pos, Bool, true, false, Option, Some, None, unwrap_or, if◌then◌else◌, refl, sym, ap, ◌∙◌, subst, arith, slice_get, length-set, get_or-set_same, get_or-set_other}
 use Rattle.std.specs.Prelude.{◌&&◌, ◌||◌, not}
 use Rattle.op_tables.specs.Operators.{is_zero}
 use Rattle.std.proofs.lemmas.Bool.{true≢false, cases_eq}
@@ -189,7 +189,7 @@ module _ (table : ArrayTable) (moves : ℕ → List NewMapping) (code : List Ins
           scalars = λ k less. held.scalars k (let e = held.long in omega (arith, e, less));
           event = subst (λ m. IsEvent moves m (ParNest p) s l (OfNest N asked part)) (sym held.long) (
             at_line,
-            (N, asked, part, refl, ap (selections_in s) is_over ∙ tuples s held.same, whens, stored_are, is, (is_beside, anchored)),
+            inl (N, asked, part, refl, ap (selections_in s) is_over ∙ tuples s held.same, whens, stored_are, is, (is_beside, anchored)),
           );
         },
         tt,

@@ -1,5 +1,5 @@
 -- What is asked of a nest and of the machine where its loops have their bounds, and what is so after its statements.
-use Rattle.std.proofs.Common.{◌≡◌, ℕ, ◌+◌, ◌*◌, ◌<◌, ◌≤◌, ◌⊎◌, List, length, map, slice_get, ℤ, true, false, Option, None, Ok}
+use Rattle.std.proofs.Common.{◌≡◌, ℕ, ◌+◌, ◌*◌, ◌<◌, ◌≤◌, ◌⊎◌, List, [], ◌∷◌, length, map, slice_get, ℤ, true, false, Option, None, Ok}
 use Rattle.storage.specs.Storage.{Storage}
 use Rattle.machine_steps.specs.Layout.{Layout, size_of}
 use Rattle.machine_steps.specs.Space.{space_count}
@@ -15,9 +15,10 @@ use Rattle.array_meaning.specs.NestEntry.{check_nest}
 use Rattle.statement_trail.specs.Trail.{nest_trail}
 use Rattle.code_meaning.specs.Flat.{slot}
 use Rattle.code_meaning.specs.Forms.{selections_in}
+use Rattle.hpf_base.specs.declared.limits.TheConstants.{MAX_ELEMENTS}
 use Rattle.node_code.specs.Instructions.{Instruction, NewMapping}
 use Rattle.code_meaning.specs.Beside.{Anchor}
-use Rattle.code_meaning.specs.Instructions.{ArrayTable, IsAnchorBelow}
+use Rattle.code_meaning.specs.Instructions.{ArrayTable, IsAnchorBelow, lies_alone}
 use Rattle.lowered_expressions.specs.WellFormed.{IsWellFormedBlock}
 use Rattle.lowered_expressions.proofs.Reach.{HasAt, Reaches, Stops, stands}
 use Rattle.lowered_expressions.proofs.Terms.{HoldsArrays}
@@ -35,6 +36,7 @@ pub record HasCopies (table : ArrayTable) (n : ℕ) : Type 0 where
   pub sized : (layouts : List Layout) (anchor : Option Anchor) (ns : List ℕ) → size_of (table.copies layouts anchor ns) ≡ space_count ns
   pub steady : (one other : List Layout) (anchor : Option Anchor) (ns : List ℕ) → ((r : ℕ) → r < n → slice_get one r ≡ slice_get other r) → IsAnchorBelow n anchor
       → table.copies one anchor ns ≡ table.copies other anchor ns
+  pub alone : (layouts : List Layout) (m : ℕ) → m ≤ MAX_ELEMENTS → lies_alone table (table.copies layouts None (m ∷ [])) ≡ true
 
 -- the place after the statements of the nest of a line at a place
 abbrev pub place_after : (n line pc v : ℕ) → Nest → Block → ℕ

@@ -14,6 +14,10 @@ use Rattle.lowered_expressions.specs.Passed.{note, note_at, passed, passed_now, 
 use Rattle.lowered_expressions.proofs.Keeping.{kept-none, kept-some}
 use Rattle.lowered_expressions.proofs.Reach.{Idle, Place, HasAt, Reaches, Stops, stands}
 
+-- there was one more parallel statement
+abbrev pub counted : {row_count : ℕ} → Idle row_count → Idle row_count
+counted i = record { layouts = i.layouts; parts = i.parts + 1; joined = i.joined; laid = i.laid }
+
 module _ (table : ArrayTable) (row_count : ℕ) (moves : ℕ → List NewMapping) (code : List Instruction) (n : ℕ) (par : Instruction) (tuples : Tuples Fault) (left : List ℤ → ℕ → Option Spot) (pc : ℕ) (slots : List ℤ)
     (rows : Storage) (out : List ℕ) (is : meaning_of table par ≡ instr.Par tuples left) where
   abbrev outcome : ℕ → Outcome Fault
@@ -38,14 +42,16 @@ module _ (table : ArrayTable) (row_count : ℕ) (moves : ℕ → List NewMapping
 
   module _ (has : HasAt code pc (par ∷ [])) (count : ℕ) (many : tuples.count slots ≡ count) (T : Trail) (those : IsTrail moves (note par slots) T) where
     -- by itself, where no fault is kept, it stores
-    pub par-passes : keep outcome 0 count None ≡ None
-        → Reaches table row_count moves code T (stands table row_count moves code pc slots rows out) (stands table row_count moves code (pc + 1) slots (stored count) out)
-    par-passes none i = (
-      1,
-      record { layouts = i.layouts; parts = i.parts + 1; joined = i.joined; laid = i.laid },
+    pub par-steps : keep outcome 0 count None ≡ None → (i : Idle row_count)
+        → (steps (meaning_of table) 1 (begun i) ≡ stands table row_count moves code (pc + 1) slots (stored count) out (counted i)) × IsTrail moves (passed table 1 (begun i)) T
+    par-steps none i = (
       parts has.0 count many i ∙ ap (λ k. record (parted count i) { kept = k }) (kept-none outcome i.parts count none),
       subst (λ l. IsTrail moves l T) (sym (append-nil (passed_now (begun i)) ∙ noted has.0 i)) those,
     )
+
+    pub par-passes : keep outcome 0 count None ≡ None
+        → Reaches table row_count moves code T (stands table row_count moves code pc slots rows out) (stands table row_count moves code (pc + 1) slots (stored count) out)
+    par-passes none i = let h = par-steps none i in (1, counted i, h.0, h.1)
 
   module _ (has : HasAt code pc (par ∷ Verdict ∷ [])) (count : ℕ) (many : tuples.count slots ≡ count) (T : Trail) (those : IsTrail moves (note par slots) T) where
     abbrev kept : Option (Kept Fault)

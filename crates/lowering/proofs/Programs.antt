@@ -94,6 +94,7 @@ module _ (table : ArrayTable) (n room : ℕ) (moves : ℕ → List NewMapping) (
   lie = record {
     sized = tabled.copies;
     steady = λ one other anchor extents same below. tabled.steady one other anchor extents (λ r lt. same r (omega (arith, lt, declared))) (subst (λ k. IsAnchorBelow k anchor) (sym declared) below);
+    alone = tabled.alone;
   }
 
   abbrev entries : Trail

@@ -497,7 +497,7 @@ module _ (table : ArrayTable) (row_count : ℕ) (moves : ℕ → List NewMapping
     statement-goes (AssignSection a rs t) line b pc leave again slots rows s ok forms ranked fit fits room has le few holds =
         section-goes table row_count moves code n many None leave again line b pc a rs t slots rows s ok.0 ok.1 ok.2 has le few holds
     statement-goes (Transform x y how) line b pc leave again slots rows s ok forms ranked fit fits room has le few holds =
-        transform-goes table row_count moves code n many None leave again line x y how ok.0 ok.1 ranked.0 s rows b pc slots ok.2 has le few holds
+        transform-goes table row_count moves code n many leave again line lie x y how ok.0 ok.1 ranked.0 s rows b pc slots ok.2 has le few holds
     statement-goes (If arms other) line b pc leave again slots rows s ok forms ranked fit fits room has le few holds =
         arms-go arms (λ pc. block_code n moves other b pc leave again) (run_block other) (block_trail other) b pc leave again slots rows s ok.0 forms.0 ranked.0 fit.0 fits (omega (arith, room)) has le
         (omega (arith, few)) holds

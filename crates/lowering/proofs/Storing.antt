@@ -8,7 +8,7 @@ use Rattle.storage.specs.Storage.{Storage, Spot, read}
 use Rattle.storage.specs.Effect.{Effect, scatter}
 use Rattle.array_meaning.specs.Faults.{Cause, Fault, ◌>>=◌, at_tuple}
 use Rattle.array_meaning.specs.State.{State, stored, store_all}
-use Rattle.array_meaning.specs.Runs.{one_step}
+use Rattle.array_meaning.specs.Runs.{normal, one_step}
 use Rattle.array_meaning.specs.declared.sections.Selection.{Selection}
 use Rattle.array_meaning.specs.declared.sections.Store.{Store}
 use Rattle.array_meaning.specs.Sections.{subscripts_at}
@@ -27,7 +27,7 @@ use Rattle.lowered_expressions.proofs.Terms.{HoldsArrays}
 use Rattle.lowered_expressions.proofs.Goes.{Holds, kept-refl, Goes}
 use Rattle.lowered_expressions.proofs.Keeping.{Keeps, keeps}
 use Rattle.lowered_expressions.proofs.Scatter.{Does, Scattered, scattered, values_of, values-append, NamesBelow, tuple-does}
-use Rattle.lowering.proofs.Pars.{par-reaches, par-stops}
+use Rattle.lowering.proofs.Pars.{par-passes, par-reaches, par-stops}
 
 -- stores print nothing
 pub stores-print : (s : State) (a : ℕ) (stores : List (Option Store)) → (store_all s a stores).printed ≡ s.printed
@@ -97,3 +97,45 @@ module _ (table : ArrayTable) (row_count : ℕ) (moves : ℕ → List NewMapping
           out reach = subst (λ o. Reaches table row_count moves code T (stands table row_count moves code pc slots rows s.printed) (stands table row_count moves code (pc + 2) slots (scatter effect count rows) o))
               (sym (stores-print s a stores)) reach
       by_each (Err c) h kept = par-stops table row_count moves code n par tuples left pc slots rows s.printed is has count sized T those (fault_at line c) kept
+
+-- ---- a parallel statement without a Verdict, which has no fault
+
+module _ (table : ArrayTable) (row_count : ℕ) (moves : ℕ → List NewMapping) (code : List Instruction) (n many : ℕ) (copy : Option (List ℤ)) (leave again : ℕ)
+    (par : Instruction) (tuples : Tuples Fault)
+    (left : List ℤ → ℕ → Option Spot) (is : meaning_of table par ≡ instr.Par tuples left)
+    (line a b pc : ℕ) (la : a < n) (has : HasAt code pc (par ∷ [])) (slots : List ℤ) (rows : Storage) (s : State)
+    (holds : Holds table row_count moves code n many copy s slots rows)
+    (count : ℕ) (sized : tuples.count slots ≡ count)
+    (tuple : ℕ → List ℤ) (f : ℕ → Result (Option Store) Cause)
+    (does : (t : ℕ) → t < count → Does line a (left slots t) (machine.outcome_of tuples slots (read rows) t) (at_tuple (tuple t) (f t)))
+    (T : Trail) (those : IsTrail moves (note par slots) T) where
+  abbrev passed_outcome : ℕ → Outcome Fault
+  passed_outcome = machine.outcome_of tuples slots (read rows)
+
+  abbrev passed_effect : ℕ → Effect Fault
+  passed_effect = effect_of tuples left slots (read rows)
+
+  pub passes-go : (next : State) → (each tuple f count >>= (λ stores. Ok (store_all s a stores))) ≡ Ok next
+      → Goes table row_count moves code n many copy leave again T (pc + 1) b slots (stands table row_count moves code pc slots rows s.printed) (normal next)
+  passes-go next = by_each (each tuple f count) (scattered table row_count moves code n many copy line a la s slots rows holds passed_effect tuple f count
+      (λ u lt. (does u lt).0))
+      (keeps line passed_outcome tuple f count (λ u lt. (does u lt).1))
+    where
+      by_each : (q : Result (List (Option Store)) Cause) → Scattered table row_count moves code n many copy line a la s slots rows holds passed_effect q count
+          → Keeps line passed_outcome q count
+          → (q >>= (λ stores. Ok (store_all s a stores))) ≡ Ok next
+          → Goes table row_count moves code n many copy leave again T (pc + 1) b slots (stands table row_count moves code pc slots rows s.printed) (normal next)
+      by_each (Ok stores) h kept e =
+          let same : store_all s a stores ≡ next = cc in
+          let reach = par-passes table row_count moves code n par tuples left pc slots rows s.printed is has count sized T those kept in
+          subst (λ next. Goes table row_count moves code n many copy leave again T (pc + 1) b slots
+          (stands table row_count moves code pc slots rows s.printed) (normal next)) same (
+            slots,
+            scatter passed_effect count rows,
+            subst (λ o. Reaches table row_count moves code T (stands table row_count moves code pc slots rows s.printed)
+                (stands table row_count moves code (pc + 1) slots (scatter passed_effect count rows) o))
+                (sym (stores-print s a stores)) reach,
+            kept-refl table row_count moves code n many copy b slots,
+            h,
+          )
+      by_each (Err c) h kept e = absurd cc

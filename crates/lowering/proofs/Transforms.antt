@@ -1,38 +1,37 @@
--- The code of a circular shift and of a transpose does what these mean.
-use Rattle.node_code.specs.Instructions.{NewMapping, Instruction, Limits, ParForall}
-use Rattle.code_meaning.specs.Instructions.{ArrayTable, meaning_of, go_on_if}
-use Rattle.std.proofs.Common.{◌≡◌, ℕ, suc, ◌+◌, ◌<◌, ◌≤◌, ◌&&◌, List, [], ◌∷◌, ◌++◌, map, length, ℤ, pos, negsuc, neg_ℤ, ◌+ℤ◌, ◌-ℤ◌, int_div, unsigned_abs, Bool, true, false, if◌then◌else◌, All, Option, Some, None, Result, Ok, Err, bytes_eq, reverse, refl, sym, ap, ◌∙◌, subst, arith, length-append, append-nil, slice_get, ◌*◌, ◌==◌}
+-- The code of a circular shift, of a transpose and of a prefix sum does what these mean.
+use Rattle.node_code.specs.Instructions.{NewMapping, Instruction, Limits, ParForall, MakeCopy, ParCopy, ScanCopy, ParNest}
+use Rattle.code_meaning.specs.Instructions.{ArrayTable, go_on_if}
+use Rattle.std.proofs.Common.{◌≡◌, ℕ, suc, ◌+◌, ◌<◌, ◌≤◌, ◌≢◌, ◌&&◌, List, [], ◌∷◌, ◌++◌, map, length, ℤ, pos, negsuc, neg_ℤ, ◌+ℤ◌, ◌-ℤ◌, int_div, unsigned_abs, Bool, true, false, if◌then◌else◌, All, Option, Some, None, Result, Ok, Err, bytes_eq, reverse, refl, sym, ap, ◌∙◌, subst, arith, length-append, append-nil, slice_get, ◌==◌}
 use Rattle.std.proofs.Math.Nat.{div-one}
 use Rattle.std.proofs.lemmas.Bool.{le-leb}
 use Rattle.std.proofs.lemmas.Bool.Decides.{Decides-int_eq}
 use Rattle.hpf_base.specs.declared.limits.TheConstants.{MAX_ELEMENTS}
 use Rattle.hpf_base.specs.ElementOrder.{product}
+use Rattle.op_tables.specs.declared.join.Join.TheVariants.{Sum}
 use Rattle.op_tables.specs.declared.op.Op.TheVariants as op
 use Rattle.op_tables.specs.Operators.{wrapped, is_zero}
 use Rattle.expression_rules.specs.declared.dims.Dim.{Dim}
-use Rattle.expression_rules.specs.Dims.{at_least_none, extent, elements, IsDim}
-use Rattle.storage.specs.Storage.{Storage, Spot, read}
-use Rattle.storage.specs.Effect.{Effect, scatter}
+use Rattle.expression_rules.specs.Dims.{at_least_none, extent, IsDim}
+use Rattle.storage.specs.Storage.{Storage, read}
 use Rattle.array_meaning.specs.declared.faults.FaultKind.TheVariants.{Shape}
 use Rattle.array_meaning.specs.declared.sections.Sequence.{Sequence}
 use Rattle.array_meaning.specs.declared.sections.Selection.{Selection}
 use Rattle.array_meaning.specs.declared.sections.Selection.TheVariants.{Along}
 use Rattle.array_meaning.specs.declared.sections.Store.{Store}
 use Rattle.array_meaning.specs.Terms.{Term, Number, Scalar, Index, Element, Apply, NoTerm, More}
-use Rattle.array_meaning.specs.Statements.{WholeArray, Transformation, CircularShift, Transposition}
-use Rattle.array_meaning.specs.Faults.{Cause, Fault, ◌>>=◌, fails, with_more, at_tuple}
+use Rattle.array_meaning.specs.Statements.{WholeArray, Transformation, CircularShift, Transposition, PrefixSum}
+use Rattle.array_meaning.specs.Faults.{Cause, ◌>>=◌, fails, with_more, at_tuple}
 use Rattle.array_meaning.specs.State.{State, store_all}
 use Rattle.array_meaning.specs.Runs.{Run, normal, one_step}
 use Rattle.array_meaning.specs.Sections.{sequence, value_count, extents, subscripts_at, space_size}
-use Rattle.array_meaning.specs.Elementals.{each, operated, unless_zero}
+use Rattle.array_meaning.specs.Elementals.{operated, unless_zero}
 use Rattle.array_meaning.specs.Expressions.{value, values, selections}
 use Rattle.array_meaning.specs.ArrayAssignments.{store_at, if_true}
 use Rattle.array_meaning.specs.Forall.{indices_at}
 use Rattle.array_meaning.specs.Resolution.{whole}
 use Rattle.array_meaning.specs.Transformations.{extents_of, shift_of, has_shape, transformed, transform}
 use Rattle.machine_steps.specs.Space.{space_count}
-use Rattle.machine_steps.specs.Instr as instr
-use Rattle.machine_steps.specs.Instr.{Running, Outcome, Tuples}
+use Rattle.machine_steps.specs.Instr.{Running}
 use Rattle.machine_steps.specs.Machine as machine
 use Rattle.machine_steps.specs.Machine.{effect_of}
 use Rattle.code_meaning.specs.Flat.{slot}
@@ -40,25 +39,25 @@ use Rattle.code_meaning.specs.Forms.{selections_at, selections_in, elemental_at}
 use Rattle.node_code.specs.Parallel.{Assignment}
 use Rattle.code_meaning.specs.Parallel.{at_line, outcome_if, spot_of, reads_at, assigned_value, assignment_size, forall_tuples, forall_spot}
 use Rattle.program_code.specs.ExpressionCode.{slots_of, all_slots_of, flat_of, code_of, subscripts_slots, subs_of, subscripts_code, index_form}
-use Rattle.program_code.specs.StatementCode.{turn_operands, turn_slots, turn_code, turn_in_slot, transform_assignment, in_order, misfit, fitted_code, transform_code}
-use Rattle.statement_trail.specs.Trail.{Trail, ElementsAssigned, after_value, reached, value_trail, selections_trail, shift_trail, transform_trail}
+use Rattle.program_code.specs.StatementCode.{turn_operands, turn_slots, turn_code, turn_in_slot, transform_assignment, in_order, misfit, whole_evaluation, copy_assignment, prefix_code, agreed_code, fitted_code, transform_code}
+use Rattle.statement_trail.specs.Trail.{Trail, ElementsAssigned, after_value, reached, value_trail, selections_trail, shift_trail, transformed_trail, transform_trail}
 use Rattle.statement_trail.specs.TransformedElements.{bounds_of, axes_of, indices_from, same_places, shifted_subscripts, source_subscripts, source_element, first_extent, turn_of}
 use Rattle.lowered_expressions.specs.WellFormed.{IsSubscript, AreSubscripts, IsIndexed, IsTransformation}
 use Rattle.lowered_expressions.specs.Passed.{AreSameForms, note, IsTrail}
 use Rattle.lowered_expressions.proofs.Terms.{HoldsArrays, HoldsScalars, Gives}
-use Rattle.lowered_expressions.proofs.Reach.{still, comes-as, HasAt, has-front, has-back, SameBelow, same-refl, Reaches, stands, one, Comes, comes-at, comes-here}
-use Rattle.lowered_expressions.proofs.Goes.{Holds, kept-refl, Goes, goes-on, goes-at, goes-value, ends-bind}
-use Rattle.lowered_expressions.proofs.Keeping.{Keeps, keeps}
-use Rattle.lowered_expressions.proofs.Scatter.{Does, Scattered, scattered, values_of}
+use Rattle.lowered_expressions.proofs.Reach.{still, comes-as, HasAt, has-front, has-back, SameBelow, same-refl, stands, one, Comes, comes-at, comes-here}
+use Rattle.lowered_expressions.proofs.Goes.{Holds, Goes, goes-on, goes-at, goes-value, ends-bind}
+use Rattle.lowered_expressions.proofs.Scatter.{Does, values_of}
 use Rattle.lowered_expressions.proofs.Indexed.{axes-extents}
 use Rattle.transformed_elements.proofs.Shifts.{small}
 use Rattle.transformed_elements.proofs.Places.{all-places}
 use Rattle.transformed_elements.proofs.Elements.{transforms-as-elements}
 use Rattle.lowering.specs.Ranks.{IsRankOf, AreTransformed}
-use Rattle.lowering.proofs.Wholes.{whole-scalar}
+use Rattle.lowered_nests.proofs.NestRuns.{HasCopies}
+use Rattle.lowering.proofs.PrefixSums.{prefix-goes}
+use Rattle.lowering.proofs.Wholes.{elements_are, target_indexed, whole-scalar}
 use Rattle.lowering.proofs.Parts.{SubsGive, term-comes, subscripts-come}
-use Rattle.lowering.proofs.Pars.{par-passes}
-use Rattle.lowering.proofs.Storing.{stores-print}
+use Rattle.lowering.proofs.Storing.{passes-go}
 use Rattle.lowering.proofs.IndexedStores.{extents-are, indices-are, indexed-does}
 
 -- ---- the subscripts of a whole array
@@ -87,15 +86,7 @@ whole_trail : (line : ℕ) (s : State) (ds : List Dim) → selections_trail line
 whole_trail line s [] = refl
 whole_trail line s (d ∷ ds) = whole_trail line s ds
 
-elements_are : (ds : List Dim) → product (map extent ds) ≡ elements ds
-elements_are [] = refl
-elements_are (d ∷ ds) = ap (λ n. extent d * n) (elements_are ds)
-
 -- ---- the sides of the assignment of elements
-
-target_indexed : (n k : ℕ) (ds : List Dim) → AreSubscripts n (indices_from k ds)
-target_indexed n k [] = tt
-target_indexed n k (d ∷ ds) = (tt, target_indexed n (suc k) ds)
 
 places_indexed : (n k : ℕ) (ds es : List Dim) → AreSubscripts n (same_places k ds es)
 places_indexed n k [] es = tt
@@ -111,6 +102,7 @@ source_indexed n (CircularShift by) v [] es = tt
 source_indexed n (CircularShift by) v (d ∷ ds) [] = tt
 source_indexed n Transposition v (d ∷ d' ∷ []) (e ∷ e' ∷ []) = ((refl, ((refl, (tt, (tt, tt))), (tt, tt))), ((refl, ((refl, (tt, (tt, tt))), (tt, tt))), tt))
 source_indexed n Transposition v ds es = tt
+source_indexed n PrefixSum v ds es = places_indexed n 0 ds es
 
 -- a slot in the right side is as the number that it has
 slot_evaluates : (a x : ℕ) (v : ℤ) (slots : List ℤ) (ds es : List Dim) → slot slots x ≡ v
@@ -123,6 +115,7 @@ slot_evaluates a x v slots (d ∷ ds) [] is = λ indices. refl
 is_two : (how : Transformation) (rank : ℕ) → IsRankOf how rank → how ≡ Transposition → rank ≡ 2
 is_two (CircularShift by) rank ok is = absurd cc
 is_two Transposition rank ok is = ok
+is_two PrefixSum rank ok is = absurd cc
 
 -- ---- shapes that differ
 
@@ -152,52 +145,13 @@ misfit_is : (how : Transformation) (b : ℕ) (x y : WholeArray) (slots : List �
 misfit_is (CircularShift by) b x y slots same rank over =
     ap (bytes_eq (extents (map Along (axes_of y)))) (ap extents over ∙ axes-extents (axes_of x) ∙ all-places x)
     ∙ ap (λ ns. bytes_eq ns (extents_of x)) (axes-extents (axes_of y) ∙ all-places y)
+misfit_is PrefixSum b x y slots same rank over =
+    ap (bytes_eq (extents (map Along (axes_of y)))) (ap extents over ∙ axes-extents (axes_of x) ∙ all-places x)
+    ∙ ap (λ ns. bytes_eq ns (extents_of x)) (axes-extents (axes_of y) ∙ all-places y)
 misfit_is Transposition b x y slots same rank over = transposed_misfit b x.dims y.dims slots rank (same ∙ rank) over
 
 shape_fails : (ns : List ℕ) (ds : List Selection) → bytes_eq (extents ds) ns ≡ false → space_size ns (ds ∷ []) ≡ fails Shape
 shape_fails ns ds e = rw (e) refl
-
--- ---- a parallel statement without a Verdict, which has no fault
-
-module _ (table : ArrayTable) (row_count : ℕ) (moves : ℕ → List NewMapping) (code : List Instruction) (n many : ℕ) (copy : Option (List ℤ)) (leave again : ℕ)
-    (par : Instruction) (tuples : Tuples Fault)
-    (left : List ℤ → ℕ → Option Spot) (is : meaning_of table par ≡ instr.Par tuples left)
-    (line a b pc : ℕ) (la : a < n) (has : HasAt code pc (par ∷ [])) (slots : List ℤ) (rows : Storage) (s : State)
-    (holds : Holds table row_count moves code n many copy s slots rows)
-    (count : ℕ) (sized : tuples.count slots ≡ count)
-    (tuple : ℕ → List ℤ) (f : ℕ → Result (Option Store) Cause)
-    (does : (t : ℕ) → t < count → Does line a (left slots t) (machine.outcome_of tuples slots (read rows) t) (at_tuple (tuple t) (f t)))
-    (T : Trail) (those : IsTrail moves (note par slots) T) where
-  abbrev outcome : ℕ → Outcome Fault
-  outcome = machine.outcome_of tuples slots (read rows)
-
-  abbrev effect : ℕ → Effect Fault
-  effect = effect_of tuples left slots (read rows)
-
-  passes-go : (next : State) → (each tuple f count >>= (λ stores. Ok (store_all s a stores))) ≡ Ok next
-      → Goes table row_count moves code n many copy leave again T (pc + 1) b slots (stands table row_count moves code pc slots rows s.printed) (normal next)
-  passes-go next = by_each (each tuple f count) (scattered table row_count moves code n many copy line a la s slots rows holds effect tuple f count
-      (λ u lt. (does u lt).0))
-      (keeps line outcome tuple f count (λ u lt. (does u lt).1))
-    where
-      by_each : (q : Result (List (Option Store)) Cause) → Scattered table row_count moves code n many copy line a la s slots rows holds effect q count
-          → Keeps line outcome q count
-          → (q >>= (λ stores. Ok (store_all s a stores))) ≡ Ok next
-          → Goes table row_count moves code n many copy leave again T (pc + 1) b slots (stands table row_count moves code pc slots rows s.printed) (normal next)
-      by_each (Ok stores) h kept e =
-          let same : store_all s a stores ≡ next = cc in
-          let reach = par-passes table row_count moves code n par tuples left pc slots rows s.printed is has count sized T those kept in
-          subst (λ next. Goes table row_count moves code n many copy leave again T (pc + 1) b slots
-          (stands table row_count moves code pc slots rows s.printed) (normal next)) same (
-            slots,
-            scatter effect count rows,
-            subst (λ o. Reaches table row_count moves code T (stands table row_count moves code pc slots rows s.printed)
-                (stands table row_count moves code (pc + 1) slots (scatter effect count rows) o))
-                (sym (stores-print s a stores)) reach,
-            kept-refl table row_count moves code n many copy b slots,
-            h,
-          )
-      by_each (Err c) h kept e = absurd cc
 
 -- ---- what comes before it
 
@@ -221,6 +175,7 @@ module _ (table : ArrayTable) (row_count : ℕ) (moves : ℕ → List NewMapping
     TurnGives (CircularShift by) slots k = (later : List ℤ) → SameBelow (b + slots_of (Apply op.Modulo (turn_operands x by))) slots later
         → slot later (b + all_slots_of (turn_operands x by)) ≡ turn_of x k
     TurnGives Transposition slots k = Unit {0}
+    TurnGives PrefixSum slots k = Unit {0}
 
     turn-comes : (how : Transformation) (pc : ℕ) (slots : List ℤ) → IsTransformation n how → HasAt code pc (turn_code line b x how) → HoldsScalars n s slots → n ≤ b
         → b + turn_slots x how ≤ length slots
@@ -229,6 +184,10 @@ module _ (table : ArrayTable) (row_count : ℕ) (moves : ℕ → List NewMapping
         let e : pc ≡ pc + 0 = omega arith in
         comes-at table row_count moves code line rows out [] pc pc (pc + 0) b slots (TurnGives Transposition) (Ok (pos 0)) e
         (comes-here table row_count moves code line rows out pc b slots (TurnGives Transposition) (pos 0) tt)
+    turn-comes PrefixSum pc slots ok has holds le few =
+        let e : pc ≡ pc + 0 = omega arith in
+        comes-at table row_count moves code line rows out [] pc pc (pc + 0) b slots (TurnGives PrefixSum) (Ok (pos 0)) e
+        (comes-here table row_count moves code line rows out pc b slots (TurnGives PrefixSum) (pos 0) tt)
     turn-comes (CircularShift by) pc slots ok has holds le few =
         by_places (value [] s by)
         (comes-as table row_count moves code line rows out (value_trail line s t) (value_trail line s by) pc to b slots (Gives (b + slots_of t) (flat_of b t))
@@ -265,27 +224,32 @@ module _ (table : ArrayTable) (row_count : ℕ) (moves : ℕ → List NewMapping
 
 -- ---- the statement
 
-module _ (table : ArrayTable) (row_count : ℕ) (moves : ℕ → List NewMapping) (code : List Instruction) (n many : ℕ) (copy : Option (List ℤ))
-    (leave again line : ℕ) (x y : WholeArray) (how : Transformation)
+module _ (table : ArrayTable) (row_count : ℕ) (moves : ℕ → List NewMapping) (code : List Instruction) (n many leave again line : ℕ) (lie : HasCopies table n)
+    (x y : WholeArray) (how : Transformation)
     (lx : x.array < n) (ly : y.array < n) (ranked : AreTransformed table.shapes x y how) (s : State) (rows : Storage) where
   -- what comes after the number of places and the subscripts of the target
-  module _ (b b1 b2 pc : ℕ) (slots : List ℤ) (holds : Holds table row_count moves code n many copy s slots rows) (k : ℤ)
+  module _ (b b1 b2 pc : ℕ) (slots : List ℤ) (holds : Holds table row_count moves code n many None s slots rows) (k : ℤ)
       (over : SubsGive b2 (subs_of b1 (whole x.dims)) slots (map Along (axes_of x)))
       (turns : AreSameForms slots (index_form (source_element x y how (turn_in_slot b x how))) (index_form (source_element x y how (Number (turn_of x k))))) where
     abbrev Done : Bool → Type 0
-    Done fits = Goes table row_count moves code n many copy leave again
-        (if fits then reached line s (ElementsAssigned false None (axes_of x) x.array (indices_from 0 x.dims)
-        (source_element x y how (Number (turn_of x k)))) else [])
-        (pc + length (fitted_code fits line b b1 b2 x y how)) b2 slots (stands table row_count moves code pc slots rows s.printed)
+    Done fits = Goes table row_count moves code n many None leave again
+        (if fits then transformed_trail x y how k line s else []) (pc + length (fitted_code fits n line b b1 b2 x y how)) b2 slots (stands table row_count moves code pc slots rows s.printed)
         (one_step line s (if fits then Ok (store_all s x.array (transformed x y how k s)) else fails Shape))
 
-    assigned : has_shape x y how ≡ true → HasAt code pc (fitted_code true line b b1 b2 x y how) → Done true
-    assigned fits has =
-        passes-go table row_count moves code n many copy leave again (ParForall p) (forall_tuples table.shapes p)
+    -- a shift or a transpose
+    abbrev Moved : Transformation → Type 0
+    Moved h = HasAt code pc (ParForall (transform_assignment line b b1 x y h) ∷ [])
+        → Goes table row_count moves code n many None leave again (reached line s (ElementsAssigned false None (axes_of x) x.array (indices_from 0 x.dims)
+        (source_element x y h (Number (turn_of x k))))) (pc + 1) b2 slots (stands table row_count moves code pc slots rows s.printed)
+        (normal (store_all s x.array (transformed x y h k s)))
+
+    assigned : how ≢ PrefixSum → has_shape x y how ≡ true → Moved how
+    assigned moves-it fits has =
+        passes-go table row_count moves code n many None leave again (ParForall p) (forall_tuples table.shapes p)
         (forall_spot table.shapes p) refl line x.array b2 pc lx has slots rows s holds
         (product (extents_of x)) sized (indices_at (axes_of x)) at_a_tuple (λ u lt. does u) entry those (store_all s x.array (transformed x y how k s))
         (transforms-as-elements s x y how k line (holds.arrays.shape x.array lx ∙ sym ranked.0.0)
-        (holds.arrays.shape y.array ly ∙ sym ranked.1.0) ranked.0.1 ranked.1.1 fits ranked.2 (is_two how (length x.dims) ranked.3))
+        (holds.arrays.shape y.array ly ∙ sym ranked.1.0) ranked.0.1 ranked.1.1 moves-it fits ranked.2 (is_two how (length x.dims) ranked.3))
       where
         p : Assignment
         p = transform_assignment line b b1 x y how
@@ -357,9 +321,9 @@ module _ (table : ArrayTable) (row_count : ℕ) (moves : ℕ → List NewMapping
             (at_tuple (indices_at (axes_of x) u) (at_a_tuple u)))
             (sym (indices-are p.over (axes_of x) slots here u)) (does-at (indices_at (axes_of x) u))
 
-    refused : has_shape x y how ≡ false → HasAt code pc (fitted_code false line b b1 b2 x y how) → n ≤ b2 → b2 + subscripts_slots (whole y.dims) ≤ many → Done false
+    refused : has_shape x y how ≡ false → HasAt code pc (fitted_code false n line b b1 b2 x y how) → n ≤ b2 → b2 + subscripts_slots (whole y.dims) ≤ many → Done false
     refused fits has le few =
-        goes-on table row_count moves code n many copy leave again [] [] (pc + length (c ++ Limits m ∷ [])) b2 b2 slots slots1
+        goes-on table row_count moves code n many None leave again [] [] (pc + length (c ++ Limits m ∷ [])) b2 b2 slots slots1
         (stands table row_count moves code pc slots rows s.printed)
         (stands table row_count moves code pc1 slots1 rows s.printed) (one_step line s (fails Shape)) (omega arith) came.1 (λ j from lt. came.2.1 j lt)
         (λ i. (
@@ -410,30 +374,75 @@ module _ (table : ArrayTable) (row_count : ℕ) (moves : ℕ → List NewMapping
             ap (λ ds. space_size space (ds ∷ [])) left
             ∙ shape_fails space (map Along (axes_of y)) (misfit_is how b1 x y slots1 ranked.2 ranked.3 (over slots1 came.2) ∙ fits)
 
-    fitted-goes : (fits : Bool) → has_shape x y how ≡ fits → HasAt code pc (fitted_code fits line b b1 b2 x y how) → n ≤ b2
+    -- a prefix sum, whose source is selected first
+    summed : how ≡ PrefixSum → has_shape x y how ≡ true → HasAt code pc (prefix_code n line b1 b2 x y) → n ≤ b2 → b2 + subscripts_slots (whole y.dims) ≤ many
+        → Goes table row_count moves code n many None leave again (transformed_trail x y PrefixSum k line s) (pc + length (prefix_code n line b1 b2 x y)) b2 slots
+        (stands table row_count moves code pc slots rows s.printed) (normal (store_all s x.array (transformed x y PrefixSum k s)))
+    summed is fits has le few =
+        goes-at table row_count moves code n many None leave again (transformed_trail x y PrefixSum k line s) (pc1 + 4) (pc + length (c ++ rest)) b2 slots
+        (stands table row_count moves code pc slots rows s.printed) (normal next) (omega (arith, length-append c rest))
+        (goes-value table row_count moves code n many None leave again [] (λ ds. transformed_trail x y PrefixSum k line s) line pc pc1 (pc1 + 4) b2 b3 slots rows s
+        (SubsGive b3 (subs_of b2 (whole y.dims))) (Ok (map Along (axes_of y))) (λ ds. normal next) (omega arith) le holds
+        (whole-comes table row_count moves code line n s rows s.printed holds.arrays y.dims pc b2 slots ranked.1.1.each (has-front code pc c rest has) holds.scalars le
+        (omega (arith, few, holds.size)))
+        (λ slots1 ds e same gives holds1.
+        prefix-goes table row_count moves code n many leave again line lie x y lx ly (subst (AreTransformed table.shapes x y) is ranked)
+        (subst (λ h. has_shape x y h ≡ true) is fits) s b3 b1 b2 pc1 slots1 rows holds1 (over slots1 same)
+        (gives slots1 (same-refl b3 slots1) ∙ sym (listed ds e)) (has-back code pc c rest has)))
+      where
+        next : State
+        next = store_all s x.array (transformed x y PrefixSum k s)
+
+        c : List Instruction
+        c = subscripts_code line b2 (whole y.dims)
+
+        rest : List Instruction
+        rest = MakeCopy n (whole_evaluation line b2 y) ∷ ParCopy n (whole_evaluation line b2 y) ∷ ScanCopy n Sum ∷ ParNest (copy_assignment n line b1 x) ∷ []
+
+        pc1 : ℕ
+        pc1 = pc + length c
+
+        b3 : ℕ
+        b3 = b2 + subscripts_slots (whole y.dims)
+
+        selected : List Selection → Result (List Selection) Cause
+        selected ds = Ok ds
+
+        listed : (ds : List Selection) → selected (map Along (axes_of y)) ≡ selected ds → map Along (axes_of y) ≡ ds
+        listed ds e = cc
+
+    agreed-goes : (how' : Transformation) → how ≡ how' → has_shape x y how ≡ true → HasAt code pc (agreed_code n line b b1 b2 x y how') → n ≤ b2
+        → b2 + subscripts_slots (whole y.dims) ≤ many
+        → Goes table row_count moves code n many None leave again (transformed_trail x y how' k line s) (pc + length (agreed_code n line b b1 b2 x y how')) b2 slots
+        (stands table row_count moves code pc slots rows s.printed) (normal (store_all s x.array (transformed x y how' k s)))
+    agreed-goes (CircularShift by) is fits has le few = subst Moved is (assigned (λ e. let same : CircularShift by ≡ PrefixSum = sym is ∙ e in cc) fits) has
+    agreed-goes Transposition is fits has le few = subst Moved is (assigned (λ e. let same : Transposition ≡ PrefixSum = sym is ∙ e in cc) fits) has
+    agreed-goes PrefixSum is fits has le few = summed is fits has le few
+
+    fitted-goes : (fits : Bool) → has_shape x y how ≡ fits → HasAt code pc (fitted_code fits n line b b1 b2 x y how) → n ≤ b2
         → b2 + subscripts_slots (whole y.dims) ≤ many → Done fits
-    fitted-goes true fits has le few = assigned fits has
+    fitted-goes true fits has le few = agreed-goes how refl fits has le few
     fitted-goes false fits has le few = refused fits has le few
 
-  pub transform-goes : (b pc : ℕ) (slots : List ℤ) → IsTransformation n how → HasAt code pc (transform_code line b x y how) → n ≤ b
+  pub transform-goes : (b pc : ℕ) (slots : List ℤ) → IsTransformation n how → HasAt code pc (transform_code n line b x y how) → n ≤ b
       → b + (turn_slots x how + (subscripts_slots (whole x.dims) + subscripts_slots (whole y.dims))) ≤ many
-      → Holds table row_count moves code n many copy s slots rows
-      → Goes table row_count moves code n many copy leave again (transform_trail x y how line s) (pc + length (transform_code line b x y how)) b slots
+      → Holds table row_count moves code n many None s slots rows
+      → Goes table row_count moves code n many None leave again (transform_trail x y how line s) (pc + length (transform_code n line b x y how)) b slots
       (stands table row_count moves code pc slots rows s.printed) (one_step line s (transform x y how s))
   transform-goes b pc slots ok has le few holds =
-      goes-at table row_count moves code n many copy leave again (transform_trail x y how line s) to (pc + length (c1 ++ (c2 ++ c3))) b slots
+      goes-at table row_count moves code n many None leave again (transform_trail x y how line s) to (pc + length (c1 ++ (c2 ++ c3))) b slots
       (stands table row_count moves code pc slots rows s.printed)
       (one_step line s (transform x y how s)) long
-      (subst (Goes table row_count moves code n many copy leave again (transform_trail x y how line s) to b slots
+      (subst (Goes table row_count moves code n many None leave again (transform_trail x y how line s) to b slots
       (stands table row_count moves code pc slots rows s.printed))
       (sym (ends-bind line s (shift_of s how) (λ k. if has_shape x y how then Ok (store_all s x.array (transformed x y how k s)) else fails Shape)))
-      (goes-value table row_count moves code n many copy leave again (shift_trail line s how) passes line pc pc1 to b b1 slots rows s
+      (goes-value table row_count moves code n many None leave again (shift_trail line s how) passes line pc pc1 to b b1 slots rows s
       (TurnGives table row_count moves code line n s rows s.printed holds.arrays x b how) (shift_of s how)
       does (omega arith) le holds
       (turn-comes table row_count moves code line n s rows s.printed holds.arrays x b how pc slots ok (has-front code pc c1 (c2 ++ c3) has) holds.scalars le
       (omega (arith, few, holds.size)))
       (λ slots1 k e1 same1 gives1 holds1.
-      goes-value table row_count moves code n many copy leave again [] (λ ds. passes k) line pc1 pc2 to b1 b2 slots1 rows s
+      goes-value table row_count moves code n many None leave again [] (λ ds. passes k) line pc1 pc2 to b1 b2 slots1 rows s
       (SubsGive b2 (subs_of b1 (whole x.dims))) (Ok (map Along (axes_of x)))
       (λ ds. does k) (omega arith) (omega (arith, le)) holds1
       (whole-comes table row_count moves code line n s rows s.printed holds1.arrays x.dims pc1 b1 slots1 ranked.0.1.each
@@ -457,7 +466,7 @@ module _ (table : ArrayTable) (row_count : ℕ) (moves : ℕ → List NewMapping
       c2 = subscripts_code line b1 (whole x.dims)
 
       c3 : List Instruction
-      c3 = fitted_code (has_shape x y how) line b b1 b2 x y how
+      c3 = fitted_code (has_shape x y how) n line b b1 b2 x y how
 
       pc1 : ℕ
       pc1 = pc + length c1
@@ -475,8 +484,7 @@ module _ (table : ArrayTable) (row_count : ℕ) (moves : ℕ → List NewMapping
       h1 = has-back code pc c1 (c2 ++ c3) has
 
       passes : ℤ → Trail
-      passes k = if has_shape x y how then reached line s (ElementsAssigned false None (axes_of x) x.array (indices_from 0 x.dims)
-          (source_element x y how (Number (turn_of x k)))) else []
+      passes k = if has_shape x y how then transformed_trail x y how k line s else []
 
       does : ℤ → Run
       does k = one_step line s (if has_shape x y how then Ok (store_all s x.array (transformed x y how k s)) else fails Shape)
@@ -493,3 +501,4 @@ module _ (table : ArrayTable) (row_count : ℕ) (moves : ℕ → List NewMapping
       turns (CircularShift by) slots1 slots2 k gives same = slot_evaluates y.array (b + all_slots_of (turn_operands x by)) (turn_of x k) slots2 x.dims y.dims
           (gives slots2 same)
       turns Transposition slots1 slots2 k gives same = λ indices. refl
+      turns PrefixSum slots1 slots2 k gives same = λ indices. refl

@@ -631,7 +631,7 @@ module _ (table : CodeTable) (n : ℕ) (declared : length table.shapes ≡ n) (f
     source-good Transposition turn (d ∷ d' ∷ []) (e ∷ e' ∷ []) ok le =
         (from-good e (above_lower 1 d') (above-good 1 d' (omega (arith, le))), (from-good e' (above_lower 0 d) (above-good 0 d (omega (arith, le))), tt))
     source-good Transposition turn ds es ok le = tt
-    source-good PrefixSum turn ds es ok le = places-good 0 ds es le
+    source-good PrefixSum turn ds es ok le = let all : 0 + length ds ≤ axes = omega (arith, le) in places-good 0 ds es all
 
   -- over the subscripts of a whole array
   whole-space : (b : ℕ) (x : WholeArray) → IsDeclared table.shapes x → b + subscripts_slots (whole x.dims) ≤ table.slots → IsSpace table (subs_of b (whole x.dims))

@@ -1,6 +1,6 @@
 -- Of the claim.
 -- What it is for a program to be lowered: the machine over its code ends as it does.
-use Rattle.std.specs.Prelude.{◌≡◌, ℕ, ◌<◌, List, [], ◌++◌, length, map, replicate, slice_get, slice_index_or, ℤ, pos, Option, None}
+use Rattle.std.specs.Prelude.{◌≡◌, ℕ, ◌<◌, ◌≤◌, true, List, [], ◌∷◌, ◌++◌, length, map, replicate, slice_get, slice_index_or, ℤ, pos, Option, None}
 use Rattle.storage.specs.Storage.{row_of}
 use Rattle.array_meaning.specs.Faults.{Fault}
 use Rattle.array_meaning.specs.State.{State, scalar, array}
@@ -16,9 +16,10 @@ use Rattle.machine_steps.specs.Machine.{Machine, steps}
 use Rattle.statement_trail.specs.Trail.{Trail}
 use Rattle.lowered_expressions.specs.Passed.{passed, IsTrail}
 use Rattle.code_meaning.specs.Flat.{slot}
+use Rattle.hpf_base.specs.declared.limits.TheConstants.{MAX_ELEMENTS}
 use Rattle.node_code.specs.Instructions.{NewMapping, Instruction}
 use Rattle.code_meaning.specs.Beside.{Anchor}
-use Rattle.code_meaning.specs.Instructions.{ArrayTable, IsAnchorBelow, meaning_of}
+use Rattle.code_meaning.specs.Instructions.{ArrayTable, IsAnchorBelow, lies_alone, meaning_of}
 use Rattle.program_code.specs.StatementCode.{block_slots, program_code}
 
 -- scalars and arrays have one numbering, by the places of n declared names
@@ -50,6 +51,7 @@ pub record IsTable (s : State) (table : ArrayTable) : Type 0 where
   pub steady : (one other : List Layout) (anchor : Option Anchor) (extents : List ℕ)
       → ((r : ℕ) → r < length table.shapes → slice_get one r ≡ slice_get other r) → IsAnchorBelow (length table.shapes) anchor
       → table.copies one anchor extents ≡ table.copies other anchor extents
+  pub alone : (layouts : List Layout) (m : ℕ) → m ≤ MAX_ELEMENTS → lies_alone table (table.copies layouts None (m ∷ [])) ≡ true
 
 -- the slots of the declared names are the scalars, and the rows the arrays, of which there are as many as names
 abbrev pub IsLeft : ℕ → Machine Instruction Fault → State → Type 0

@@ -17,10 +17,10 @@ ghost use Rattle.nest_items.specs.BlockForms.{BlockHasForms};
 ghost use Rattle.fitting_states.specs.FittingStates.{BlockFits, InitialValuesFit, StateFits};
 ghost use Rattle.lowered_expressions.specs.WellFormed.{IsWellFormedBlock};
 ghost use Rattle.lowering.specs.Ranks.{AreFewDims, BlockKeepsRanks, declared_shapes};
-ghost use Rattle.machine_steps.specs.Layout.{AreOwned, IsDealt, Layout};
+ghost use Rattle.machine_steps.specs.Layout.{AreOwned, IsDealt, IsInBlocks, Layout};
 ghost use Rattle.machine_steps.specs.SameLayouts.{is_same_layout};
 ghost use Rattle.code_meaning.specs.Beside.{Anchor};
-ghost use Rattle.code_meaning.specs.Instructions.{ArrayTable, meaning_of};
+ghost use Rattle.code_meaning.specs.Instructions.{ArrayTable, lies_alone, meaning_of};
 ghost use Rattle.node_code.specs.Instructions.{NewMapping, Remap};
 ghost use Rattle.code_meaning.specs.ValidCode.{CodeTable, IsValid, IsValidNodeCode};
 
@@ -63,6 +63,7 @@ pub fn code_is_valid()
         → length shapes ≤ n
         → ((layouts : List Layout) → AreOwned count layouts → (anchor : Option Anchor) (extents : List ℕ) → IsDealt count (table.copies layouts anchor extents))
         → ((one other : Layout) → is_same_layout one other ≡ true → one ≡ other)
+        → ((layout : Layout) → lies_alone table layout ≡ true → IsInBlocks count layout)
         → ((line : ℕ) → IsValidInstr count shapes (meaning_of table (Remap line (moves line))))
         → IsWellFormedBlock n body → IsValidCode (meaning_of table) count shapes (program_code n moves body) }
 {}

@@ -134,7 +134,7 @@ module _ (s : State) (x y : WholeArray) (how : Transformation) (k : ℤ) (known 
 -- ---- at all tuples
 
 -- where none has a fault
-each-is : {A : Type 0} (tuple : ℕ → List ℤ) (f : ℕ → Result A Cause) (g : ℕ → A) (n : ℕ) → ((t : ℕ) → t < n → f t ≡ Ok (g t))
+pub each-is : {A : Type 0} (tuple : ℕ → List ℤ) (f : ℕ → Result A Cause) (g : ℕ → A) (n : ℕ) → ((t : ℕ) → t < n → f t ≡ Ok (g t))
     → each tuple f n ≡ Ok (map g (range_with_len 0 n))
 each-is tuple f g zero same = refl
 each-is tuple f g (suc n) same =
