@@ -19,7 +19,7 @@ use Rattle.resolved_program.specs.declared.statements.Statement.{Statement as He
 use Rattle.resolved_program.specs.declared.statements.Action.{Action}
 use Rattle.resolved_program.specs.declared.statements.Action.TheBlock.{AssignScalar as AssignScalar', AssignElement as AssignElement', AssignSection as AssignSection', Transform as Transform', If', Do', Where as Where', Forall as Forall', Print as Print', Stop as Stop', Exit as Exit', Cycle as Cycle', Continue as Continue', Redistribute as Redistribute', struct-Arm, Row_of-Statement, end_of-Statement, more_of-Statement, Row_of-Arm, end_of-Arm, more_of-Arm}
 use Rattle.array_meaning.specs.Terms.{Term, Number, Scalar, Index, Element, Section, Apply, Reduce, Terms, NoTerm, More, SectionSubscripts, NoSubscript, Subscript, Triplet, Control}
-use Rattle.array_meaning.specs.Statements.{SectionAssignment, ElementAssignment, WholeArray, Transformation, CircularShift, Transposition, Item, Text, Value, Elements, Loop, Block, Done, Then, Statement, AssignScalar, AssignElement, AssignSection, Transform, If, Do, Where, Forall, Print, Stop, Exit, Cycle, Continue, Redistribute, Mark, Unmarked, Outermost, Arms, NoArm, Arm}
+use Rattle.array_meaning.specs.Statements.{SectionAssignment, ElementAssignment, WholeArray, Transformation, CircularShift, Transposition, PrefixSum, Item, Text, Value, Elements, Loop, Block, Done, Then, Statement, AssignScalar, AssignElement, AssignSection, Transform, If, Do, Where, Forall, Print, Stop, Exit, Cycle, Continue, Redistribute, Mark, Unmarked, Outermost, Arms, NoArm, Arm}
 
 -- ---- expressions
 
@@ -74,6 +74,7 @@ whole_array w = record { array = w.array; dims = w.dims }
 abbrev pub transformation : HeldTransformation → Transformation
 transformation (how.CircularShift by) = CircularShift (term by)
 transformation how.Transposition = Transposition
+transformation how.PrefixSum = PrefixSum
 
 abbrev pub item : HeldItem → Item
 item (held.Text bytes) = Text bytes.items

@@ -348,6 +348,7 @@ fn copied_transformation(alloc: Global, how: &Transformation) -> Result<Transfor
             Ok(Transformation::CircularShift(by))
         }
         Transformation::Transposition => Ok(Transformation::Transposition),
+        Transformation::PrefixSum => Ok(Transformation::PrefixSum),
     }
 }
 

@@ -49,11 +49,13 @@ pub struct WholeArray {
     pub dims: Dims,
 }
 
-/// What makes of a whole array a whole array: CSHIFT, by so many places along the first dimension, and TRANSPOSE (13.14.25 and 13.14.114).
+/// What makes of a whole array a whole array: CSHIFT, by so many places along the first dimension, and TRANSPOSE (13.14.25 and 13.14.114), and
+/// SUM_PREFIX (HPF 2.0, 7.4).
 #[derive(Drop)]
 pub enum Transformation {
     CircularShift(Term),
     Transposition,
+    PrefixSum,
 }
 
 /// A condition with its block, and the number of its line.
