@@ -12,7 +12,7 @@ use Rattle.array_meaning.specs.declared.sections.Sequence.{Sequence}
 use Rattle.array_meaning.specs.declared.sections.Selection.TheVariants.{Along}
 use Rattle.array_meaning.specs.Elementals.{Elemental, Same, Selected, Operation, NoOperand, Operand}
 use Rattle.statement_trail.specs.Anchors.{AtTerm, AlongTerms, AnchorText}
-use Rattle.statement_trail.specs.Trail.{Event, TrailEntry, SectionAssigned, ValuesCopied, Reduced, ForallMask, ElementsAssigned, Redistributed, trail_of}
+use Rattle.statement_trail.specs.Trail.{Event, TrailEntry, SectionAssigned, ValuesCopied, Reduced, ForallMask, ElementsAssigned, CopyAssigned, Redistributed, trail_of}
 use Rattle.computed_programs.proofs.Shorthands.{A, B, I, K, scalar, vector, n, v, minus, add, mul, div, gt, call, range, range_by, variable, variable_at, element_at, assign, axis, at, set, print, block, loop, where_mask, forall_over, forall_masked, sub, element, parts, array, dim, matrix}
 
 abbrev names : List Entry
@@ -252,6 +252,18 @@ transpose_part : trail_of (array A (dim (pos 0) (pos 2) ∷ dim (pos 1) (pos 2) 
     } ∷ []
 unfolding int_wrap
 transpose_part = refl
+
+-- A prefix sum is two: all elements of its source are copied, and the target's, by its own subscripts, get the sums.
+-- INTEGER :: A(0:2), B(3)|A = SUM_PREFIX(B)|END
+prefix_sum_parts : trail_of (array A (dim (pos 0) (pos 2) ∷ []) (pos 0) ∷ vector B 3 0 ∷ []) (block (set 2 (variable A) (call op.SumPrefix (v B ∷ [])) ∷ []))
+    ≡ record { line = 2; scalars = pos 0 ∷ pos 0 ∷ []; event = ValuesCopied None (3 ∷ []) (all_of 1) }
+    ∷ record { line = 2; scalars = pos 0 ∷ pos 0 ∷ []; event = CopyAssigned (record { first = pos 0; step = pos 1; count = 3 } ∷ []) 0 (More (Index 0) NoTerm) }
+    ∷ []
+prefix_sum_parts = refl
+
+-- INTEGER :: A(3), B(2)|A = SUM_PREFIX(B)|END
+prefix_sum_of_other_shape : trail_of (vector A 3 0 ∷ vector B 2 0 ∷ []) (block (set 2 (variable A) (call op.SumPrefix (v B ∷ [])) ∷ [])) ≡ []
+prefix_sum_of_other_shape = refl
 
 -- Where the shapes differ the reductions are reached, and nothing else.
 -- INTEGER :: A(3), B(2)|A = CSHIFT(B, SUM(A))|END
