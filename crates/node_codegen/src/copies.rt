@@ -10,7 +10,8 @@ use hpf_base::OutOfMemory;
 use resolved_program::{Action, Arm, Statement};
 use std::alloc::Global;
 
-/// How many the code of statements takes after so many names, one after the other: they take the same ones. One is there for masks.
+/// How many the code of statements takes after so many names, one after the other: they take the same ones. One is there for masks and
+/// for prefix sums.
 #[cycle(copies)]
 pub(crate) fn block_copies(
     alloc: Global,

@@ -20,6 +20,7 @@
 #![tactic(auto)]
 
 mod array_assignments;
+mod array_bounds;
 mod copies;
 mod element_assignments;
 mod forall;
@@ -39,6 +40,7 @@ mod nest_statements;
 mod nest_steps;
 mod nest_terms;
 mod nests;
+mod prefix_sums;
 mod print;
 mod programs;
 mod sequences;

@@ -68,7 +68,21 @@ fn source_subs(
             target.dims.as_slice(),
             source.dims.as_slice(),
         ),
+        Transformation::PrefixSum => same_subs(
+            alloc,
+            target.dims.as_slice(),
+            source.dims.as_slice(),
+        ),
     }
+}
+
+/// Those of the same places in all dimensions.
+fn same_subs(alloc: Global, target: &[Dim], source: &[Dim]) -> Result<Vec<Sub>, OutOfMemory>
+    ensures { IfOk result (λ ds. subs ds.items ≡ index_subs (same_places 0 target.now source.now)) }
+{
+    let mut made = Vec::new(alloc);
+    add_same_places(alloc, &mut made, 0, target, source)?;
+    Ok(made)
 }
 
 // ---- circular shifts
@@ -105,24 +119,25 @@ fn shifted_from(
         [e, es @ ..] => {
             let first = turned(alloc, turn, d)?;
             made.push(Sub::At(from_lower(alloc, e, first)?))?;
-            add_same_places(alloc, &mut made, ds, es)?;
+            add_same_places(alloc, &mut made, 1, ds, es)?;
             Ok(made)
         }
         [] => Ok(made),
     }
 }
 
-/// Puts the subscripts of the dimensions after the first, by the same places.
+/// Puts the subscripts of dimensions, by the same places; `axis` is that of the first.
 fn add_same_places(
     alloc: Global,
     made: &mut Vec<Sub>,
+    axis: usize,
     target: &[Dim],
     source: &[Dim],
 ) -> Result<(), OutOfMemory>
-    ensures { OnOk result (subs made.new.items ≡ subs made.old.items ++ index_subs (same_places 1 target.now source.now)) }
+    ensures { OnOk result (subs made.new.items ≡ subs made.old.items ++ index_subs (same_places axis target.now source.now)) }
 {
     for k in 0..target.len().min(source.len()) {
-        made.push(Sub::At(same_place(alloc, k + 1, &target[k], &source[k])?))?;
+        made.push(Sub::At(same_place(alloc, plus(axis, k)?, &target[k], &source[k])?))?;
     }
     Ok(())
 }

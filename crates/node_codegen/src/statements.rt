@@ -73,7 +73,7 @@ fn statement_code(
             alloc, line, b, *array, subscripts, right,
         ),
         Action::Transform(target, source, how) => transform_code(
-            alloc, line, b, target, source, how,
+            alloc, copy, line, b, target, source, how,
         ),
         Action::If(arms, other) => {
             let made = arm_codes(alloc, copy, moves, arms, b, pc, leave, again)?;

@@ -1,4 +1,4 @@
-//! Circular shifts and transposes of whole arrays (Fortran 95, 13.14.25 and 13.14.114).
+//! Circular shifts, transposes and prefix sums of whole arrays (Fortran 95, 13.14.25 and 13.14.114; HPF 2.0, 7.4).
 
 ghost use Rattle.std.specs.Prelude.{◌≡◌, ◌+◌, [], ◌∷◌, ◌++◌, map, max, pos, slice_index_or, IfOk, OnOk};
 ghost use Rattle.expression_rules.specs.Dims.{extent, AreDims};
@@ -10,19 +10,20 @@ ghost use Rattle.op_tables.specs.declared.op.Op.TheVariants as op;
 ghost use Rattle.node_code.specs.Instructions.{Limits, ParForall};
 ghost use Rattle.node_code.specs.Texts as text;
 ghost use Rattle.node_code.specs.Texts.{instructions, subs};
-ghost use Rattle.resolved_program.specs.Resolved.{control, term, transformation, whole_array};
+ghost use Rattle.resolved_program.specs.Resolved.{term, transformation, whole_array};
 ghost use Rattle.program_code.specs.ExpressionCode.{code_of, subs_of, subscripts_code, subscripts_slots};
-ghost use Rattle.program_code.specs.StatementCode.{fitted_code, in_order, misfit, transform_assignment, transform_code, triplets, turn_code, turn_slots};
+ghost use Rattle.program_code.specs.StatementCode.{agreed_code, fitted_code, in_order, misfit, transform_assignment, transform_code, turn_code, turn_slots};
 
-use crate::forall_header::{add_header, header_subs};
+use crate::array_bounds::{add_bounds, bounds_slots, bounds_subs};
 use crate::loops::{of_two, set};
+use crate::prefix_sums::add_prefix;
 use crate::source_subs::{left_subs, right_form};
 use expression_code::{code_of, flat_of, joined, plus, slots_of};
 use expression_rules::{Dim, extent};
 use hpf_base::OutOfMemory;
 use node_code::{ArrayForm, Assignment, Flat, Instruction, Sub};
 use op_tables::Op;
-use resolved_program::{Control, Term, Transformation, WholeArray};
+use resolved_program::{Term, Transformation, WholeArray};
 use std::alloc::Global;
 
 // ---- slots
@@ -43,24 +44,13 @@ pub(crate) fn transform_slots(
     plus(turn_slots(how)?, bounds)
 }
 
-/// How many the code of the bounds of a whole array takes.
-fn bounds_slots(dims: &[Dim]) -> Result<usize, OutOfMemory>
-    ensures { IfOk result (λ n. n ≡ subscripts_slots (whole dims.now)) }
-{
-    let mut sum = 0;
-    for _d in dims {
-        sum = plus(sum, 3)?;
-    }
-    Ok(sum)
-}
-
 /// How many the code of the number of places takes, with the slot that gets it.
 fn turn_slots(how: &Transformation) -> Result<usize, OutOfMemory>
     ensures { IfOk result (λ n. (x : Whole) → n ≡ turn_slots x (transformation how.now)) }
 {
     match how {
         Transformation::CircularShift(by) => plus(slots_of(by)?, 1),
-        Transformation::Transposition => Ok(0),
+        Transformation::Transposition | Transformation::PrefixSum => Ok(0),
     }
 }
 
@@ -69,19 +59,20 @@ fn turn_slots(how: &Transformation) -> Result<usize, OutOfMemory>
 /// The code of a transformation: the number of places, the bounds of the target, and its assignment, or Shape.
 pub(crate) fn transform_code(
     alloc: Global,
+    copy: usize,
     line: u32,
     b: usize,
     target: &WholeArray,
     source: &WholeArray,
     how: &Transformation,
 ) -> Result<Vec<Instruction>, OutOfMemory>
-    ensures { IfOk result (λ v. instructions v.items ≡ transform_code line b (whole_array target.now) (whole_array source.now) (transformation how.now)) }
+    ensures { IfOk result (λ v. instructions v.items ≡ transform_code copy line b (whole_array target.now) (whole_array source.now) (transformation how.now)) }
 {
     let b1 = plus(b, turn_slots(how)?)?;
     let mut code = Vec::new(alloc);
     add_turn(alloc, &mut code, line, b, target, how)?;
     add_bounds(alloc, &mut code, line, b1, target.dims.as_slice())?;
-    add_fitted(alloc, &mut code, line, b, b1, target, source, how)?;
+    add_fitted(alloc, &mut code, copy, line, b, b1, target, source, how)?;
     Ok(code)
 }
 
@@ -89,6 +80,7 @@ pub(crate) fn transform_code(
 fn add_fitted(
     alloc: Global,
     code: &mut Vec<Instruction>,
+    copy: usize,
     line: u32,
     b: usize,
     b1: usize,
@@ -97,13 +89,34 @@ fn add_fitted(
     how: &Transformation,
 ) -> Result<(), OutOfMemory>
     ensures { OnOk result (instructions code.new.items ≡ instructions code.old.items
-        ++ fitted_code (has_shape (whole_array target.now) (whole_array source.now) (transformation how.now)) line b b1 (b1 + subscripts_slots (whole target.now.dims))
+        ++ fitted_code (has_shape (whole_array target.now) (whole_array source.now) (transformation how.now)) copy line b b1 (b1 + subscripts_slots (whole target.now.dims))
         (whole_array target.now) (whole_array source.now) (transformation how.now)) }
 {
     if has_shape(alloc, target, source, how)? {
-        push_elements(alloc, code, line, b, b1, target, source, how)
+        add_agreed(alloc, code, copy, line, b, b1, target, source, how)
     } else {
         push_misfit(alloc, code, line, b1, target, source, how)
+    }
+}
+
+/// Puts what is done where the shapes agree.
+fn add_agreed(
+    alloc: Global,
+    code: &mut Vec<Instruction>,
+    copy: usize,
+    line: u32,
+    b: usize,
+    b1: usize,
+    target: &WholeArray,
+    source: &WholeArray,
+    how: &Transformation,
+) -> Result<(), OutOfMemory>
+    ensures { OnOk result (instructions code.new.items ≡ instructions code.old.items
+        ++ agreed_code copy line b b1 (b1 + subscripts_slots (whole target.now.dims)) (whole_array target.now) (whole_array source.now) (transformation how.now)) }
+{
+    match how {
+        Transformation::PrefixSum => add_prefix(alloc, code, copy, line, b1, target, source),
+        _ => push_elements(alloc, code, line, b, b1, target, source, how),
     }
 }
 
@@ -209,7 +222,7 @@ fn add_turn(
             let n = first_extent(target.dims.as_slice());
             push_turn(alloc, code, line, b, by, n)
         }
-        Transformation::Transposition => Ok(()),
+        Transformation::Transposition | Transformation::PrefixSum => Ok(()),
     }
 }
 
@@ -242,46 +255,9 @@ fn first_extent(dims: &[Dim]) -> i64
     }
 }
 
-// ---- bounds
+// ---- subscripts
 
-/// The bounds of a whole array, as the header of a FORALL.
-fn bounds_of(alloc: Global, dims: &[Dim]) -> Result<Vec<Control>, OutOfMemory>
-    ensures { IfOk result (λ v. triplets (map control v.items) ≡ whole dims.now) }
-{
-    let mut bounds = Vec::new(alloc);
-    for d in dims {
-        bounds.push(Control {
-            first: Term::Number(d.lower),
-            last: Term::Number(d.upper),
-            step: Term::Number(1),
-        })?;
-    }
-    Ok(bounds)
-}
-
-/// Puts the code of the bounds.
-fn add_bounds(
-    alloc: Global,
-    code: &mut Vec<Instruction>,
-    line: u32,
-    b: usize,
-    dims: &[Dim],
-) -> Result<(), OutOfMemory>
-    ensures { OnOk result (instructions code.new.items ≡ instructions code.old.items ++ subscripts_code line b (whole dims.now)) }
-{
-    let bounds = bounds_of(alloc, dims)?;
-    add_header(alloc, code, line, b, &bounds)
-}
-
-/// The subscripts of the whole array, after the code of its bounds.
-fn bounds_subs(alloc: Global, b: usize, dims: &[Dim]) -> Result<Vec<Sub>, OutOfMemory>
-    ensures { IfOk result (λ ds. subs ds.items ≡ subs_of b (whole dims.now)) }
-{
-    let bounds = bounds_of(alloc, dims)?;
-    header_subs(alloc, b, &bounds)
-}
-
-/// Those of the target, in the order of the source's dimensions.
+/// The subscripts of the whole target, in the order of the source's dimensions.
 fn over_in_order(
     alloc: Global,
     b: usize,
@@ -292,7 +268,7 @@ fn over_in_order(
 {
     let mut over = bounds_subs(alloc, b, dims)?;
     match how {
-        Transformation::CircularShift(_) => Ok(over),
+        Transformation::CircularShift(_) | Transformation::PrefixSum => Ok(over),
         Transformation::Transposition => {
             over.reverse();
             Ok(over)
@@ -314,7 +290,9 @@ fn has_shape(
     let own = extents(alloc, target.dims.as_slice())?;
     let mut given = extents(alloc, source.dims.as_slice())?;
     match how {
-        Transformation::CircularShift(_) => Ok(*given.as_slice() == *own.as_slice()),
+        Transformation::CircularShift(_) | Transformation::PrefixSum => {
+            Ok(*given.as_slice() == *own.as_slice())
+        }
         Transformation::Transposition => {
             given.reverse();
             Ok(*given.as_slice() == *own.as_slice())

@@ -26,5 +26,5 @@ returns c =
     let source = c.args.source.now in
     let end : min (length target) (length source) ≤ c.loop-k.k = subst (λ n. n ≤ c.loop-k.k) c.min-k-end.ensures c.loop-k-test.false in
     sym (append-nil made)
-    ∙ ap (λ l. made ++ index_subs l) (sym (none_left (c.loop-k.k + 1) c.loop-k.k target source end))
+    ∙ ap (λ l. made ++ index_subs l) (sym (none_left (c.args.axis + c.loop-k.k) c.loop-k.k target source end))
     ∙ c.loop-k.invariant

@@ -7,5 +7,5 @@ use Rattle.node_codegen.proofs.source_subs.add_same_places.Given as goal
 -- those so far, before those of the dimensions that are left, are all
 abbrev pub invariant-loop-k : goal.invariant-loop-k
 invariant-loop-k l =
-    subs l.made.items ++ index_subs (same_places (l.k + 1) (drop l.k l.target) (drop l.k l.source))
-    ≡ subs l.fn.made.items ++ index_subs (same_places 1 l.target l.source)
+    subs l.made.items ++ index_subs (same_places (l.axis + l.k) (drop l.k l.target) (drop l.k l.source))
+    ≡ subs l.fn.made.items ++ index_subs (same_places l.axis l.target l.source)

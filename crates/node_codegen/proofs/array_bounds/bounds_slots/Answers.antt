@@ -3,7 +3,7 @@ use Rattle.std.proofs.lemmas.List.{at_drop_more}
 use Rattle.expression_rules.specs.declared.dims.Dim.{Dim}
 use Rattle.array_meaning.specs.Resolution.{whole}
 use Rattle.program_code.specs.ExpressionCode.{subscripts_slots}
-use Rattle.node_codegen.proofs.transformations.bounds_slots.Goals as goal
+use Rattle.node_codegen.proofs.array_bounds.bounds_slots.Goals as goal
 
 -- one dimension more
 next_slots : (ds : List Dim) (n sum next all : ℕ) → n < length ds → next ≡ sum + 3 → sum + subscripts_slots (whole (drop n ds)) ≡ all →

@@ -1,7 +1,7 @@
 use Rattle.std.proofs.Common.{◌≡◌, ◌+◌, drop}
 use Rattle.array_meaning.specs.Resolution.{whole}
 use Rattle.program_code.specs.ExpressionCode.{subscripts_slots}
-use Rattle.node_codegen.proofs.transformations.bounds_slots.Given as goal
+use Rattle.node_codegen.proofs.array_bounds.bounds_slots.Given as goal
 
 -- the slots so far, and those of the dimensions that are left, are all
 abbrev pub invariant-loop-d : goal.invariant-loop-d

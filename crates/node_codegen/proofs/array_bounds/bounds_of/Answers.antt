@@ -3,7 +3,7 @@ use Rattle.program_code.specs.StatementCode.{triplets}
 use Rattle.resolved_program.specs.Resolved.{control}
 use Rattle.resolved_program.proofs.Made.{joined_all}
 use Rattle.node_codegen.proofs.Bounds.{bounds, whole_bounds}
-use Rattle.node_codegen.proofs.transformations.bounds_of.Goals as goal
+use Rattle.node_codegen.proofs.array_bounds.bounds_of.Goals as goal
 
 pub returns : goal.returns
 returns c =

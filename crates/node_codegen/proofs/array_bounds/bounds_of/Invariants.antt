@@ -1,7 +1,7 @@
 use Rattle.std.proofs.Common.{◌≡◌, ◌++◌, drop, map}
 use Rattle.resolved_program.specs.Resolved.{control}
 use Rattle.node_codegen.proofs.Bounds.{bounds}
-use Rattle.node_codegen.proofs.transformations.bounds_of.Given as goal
+use Rattle.node_codegen.proofs.array_bounds.bounds_of.Given as goal
 
 -- those so far, before those of the dimensions that are left, are all
 abbrev pub invariant-loop-d : goal.invariant-loop-d
