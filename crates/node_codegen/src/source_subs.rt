@@ -76,15 +76,6 @@ fn source_subs(
     }
 }
 
-/// Those of the same places in all dimensions.
-fn same_subs(alloc: Global, target: &[Dim], source: &[Dim]) -> Result<Vec<Sub>, OutOfMemory>
-    ensures { IfOk result (λ ds. subs ds.items ≡ index_subs (same_places 0 target.now source.now)) }
-{
-    let mut made = Vec::new(alloc);
-    add_same_places(alloc, &mut made, 0, target, source)?;
-    Ok(made)
-}
-
 // ---- circular shifts
 
 /// The subscripts of the source of a shift by so many places as stand in the slot `turn`, fewer than the first extent.
@@ -124,30 +115,6 @@ fn shifted_from(
         }
         [] => Ok(made),
     }
-}
-
-/// Puts the subscripts of dimensions, by the same places; `axis` is that of the first.
-fn add_same_places(
-    alloc: Global,
-    made: &mut Vec<Sub>,
-    axis: usize,
-    target: &[Dim],
-    source: &[Dim],
-) -> Result<(), OutOfMemory>
-    ensures { OnOk result (subs made.new.items ≡ subs made.old.items ++ index_subs (same_places axis target.now source.now)) }
-{
-    for k in 0..target.len().min(source.len()) {
-        made.push(Sub::At(same_place(alloc, plus(axis, k)?, &target[k], &source[k])?))?;
-    }
-    Ok(())
-}
-
-/// The subscript of a dimension by the same place as the index on an axis has in another.
-fn same_place(alloc: Global, axis: usize, d: &Dim, e: &Dim) -> Result<Flat, OutOfMemory>
-    ensures { IfOk result (λ f. flat f ≡ index_flat (from_lower e.now (above_lower axis d.now))) }
-{
-    let place = above_lower(alloc, axis, d)?;
-    from_lower(alloc, e, place)
 }
 
 /// How far a subscript stands above the lower bound, for the index on the first axis: so many places further, from the beginning again after the end.
@@ -209,6 +176,41 @@ fn transposed_from(
         }
         _ => Ok(Vec::new(alloc)),
     }
+}
+
+// ---- the same places
+
+/// Those by the same places in all dimensions. They are a prefix sum's, whose code reads its source as a whole.
+fn same_subs(alloc: Global, target: &[Dim], source: &[Dim]) -> Result<Vec<Sub>, OutOfMemory>
+    ensures { IfOk result (λ ds. subs ds.items ≡ index_subs (same_places 0 target.now source.now)) }
+{
+    let mut made = Vec::new(alloc);
+    add_same_places(alloc, &mut made, 0, target, source)?;
+    Ok(made)
+}
+
+/// Puts those of dimensions from an axis on.
+fn add_same_places(
+    alloc: Global,
+    made: &mut Vec<Sub>,
+    axis: usize,
+    target: &[Dim],
+    source: &[Dim],
+) -> Result<(), OutOfMemory>
+    ensures { OnOk result (subs made.new.items ≡ subs made.old.items ++ index_subs (same_places axis target.now source.now)) }
+{
+    for k in 0..target.len().min(source.len()) {
+        made.push(Sub::At(same_place(alloc, plus(axis, k)?, &target[k], &source[k])?))?;
+    }
+    Ok(())
+}
+
+/// The subscript of a dimension by the same place as the index on an axis has in another.
+fn same_place(alloc: Global, axis: usize, d: &Dim, e: &Dim) -> Result<Flat, OutOfMemory>
+    ensures { IfOk result (λ f. flat f ≡ index_flat (from_lower e.now (above_lower axis d.now))) }
+{
+    let place = above_lower(alloc, axis, d)?;
+    from_lower(alloc, e, place)
 }
 
 // ---- places in a dimension

@@ -56,7 +56,7 @@ fn turn_slots(how: &Transformation) -> Result<usize, OutOfMemory>
 
 // ---- code
 
-/// The code of a transformation: the number of places, the bounds of the target, and its assignment, or Shape.
+/// The code of a transformation: the number of places, the bounds of the target, and what comes after these. A prefix sum takes the row `copy`.
 pub(crate) fn transform_code(
     alloc: Global,
     copy: usize,
@@ -76,7 +76,7 @@ pub(crate) fn transform_code(
     Ok(code)
 }
 
-/// Puts what comes after the bounds of the target: its assignment, or Shape.
+/// Puts what comes after the bounds of the target: what is done, or Shape.
 fn add_fitted(
     alloc: Global,
     code: &mut Vec<Instruction>,
@@ -99,7 +99,7 @@ fn add_fitted(
     }
 }
 
-/// Puts what is done where the shapes agree.
+/// Puts what is done where the shapes agree: the assignment of elements, or the prefix sums.
 fn add_agreed(
     alloc: Global,
     code: &mut Vec<Instruction>,
