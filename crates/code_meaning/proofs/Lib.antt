@@ -1,1 +1,2 @@
 pub use Rattle.aligned_copies.proofs.Beside
+pub use Rattle.aligned_copies.proofs.InBlocks

@@ -53,7 +53,7 @@ use Rattle.compiled_program.specs.ProgramLayouts.{layout_by, maps_after, program
 use Rattle.compiled_program.specs.ProgramRuns.{end_by_status, program_shapes}
 use Rattle.compiled_program.proofs.Laid.{names-many}
 use Rattle.compiled_program.proofs.StartLaid.{program-laid}
-use Rattle.compiled_program.proofs.Tables.{tables-are}
+use Rattle.compiled_program.proofs.Tables.{blocks-are, tables-are}
 use Rattle.message_text.specs.MessageText.{trail_lines}
 use Rattle.message_text.specs.Parts.{Setting}
 use Rattle.distributed_run.specs.ProgramMessages.{messages_text, names_layouts, program_setting}
@@ -193,6 +193,7 @@ module _ (grid : List ℕ) (p : MainProgram) where
     valid-code =
         let some : 1 ≤ nodes = product-some grid is.extents in
         valid nodes p (names_shapes p layouts) table moves (omega (arith, few)) (λ ls owned anchor extents. are-dealt nodes ls anchor extents some owned) same_layouts
+        (blocks-are nodes maps (program_shapes p) some)
         (λ line. (dealt grid (program_copies p) p is arrays new line, λ ls declared owned. rounds-cover nodes (remappings maps (moves line)) ls owned))
         rules.resolved rules.bodies_fine
 

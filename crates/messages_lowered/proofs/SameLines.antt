@@ -1,6 +1,8 @@
 -- What is passed has the lines of the trail.
-use Rattle.std.proofs.Common.{◌≡◌, ℕ, zero, suc, ◌<◌, List, [], ◌∷◌, ◌++◌, length, map, slice_index_or, ℤ, pos, Option, Some, None, refl, sym, ap, ◌∙◌, subst}
-use Rattle.std.specs.Prelude.{is_some}
+use Rattle.std.proofs.Common.{◌≡◌, ℕ, zero, suc, ◌+◌, ◌-◌, ◌<◌, max, List, [], ◌∷◌, ◌++◌, length, map, slice_index_or, ℤ, pos, Option, Some, None, refl, sym, ap, ◌∙◌, subst, arith, ⊎_elim}
+use Rattle.std.specs.Prelude.{is_some, codes, decimal}
+use Rattle.std.specs.List.{flat_map, range_with_len}
+use Rattle.storage.specs.Storage.{Spot}
 use Rattle.mappings.specs.declared.mapping.Mapping.{Mapping}
 use Rattle.machine_steps.specs.Space.{space_count}
 use Rattle.expression_rules.specs.declared.dims.Dim.{Dim}
@@ -8,12 +10,12 @@ use Rattle.array_meaning.specs.Forall.{index_extents, indices_at}
 use Rattle.array_meaning.specs.Sections.{extents, positions, subscripts_at}
 use Rattle.array_meaning.specs.Terms.{Term, Terms}
 use Rattle.statement_trail.specs.Anchors.{AnchorText}
-use Rattle.statement_trail.specs.Trail.{Event, Trail, SectionAssigned, ValuesCopied, Reduced, ForallMask, ElementsAssigned, Redistributed}
+use Rattle.statement_trail.specs.Trail.{Event, Trail, SectionAssigned, ValuesCopied, Reduced, ForallMask, ElementsAssigned, CopyAssigned, Redistributed}
 use Rattle.array_meaning.specs.declared.sections.Selection.TheVariants.{Along}
 use Rattle.array_meaning.specs.declared.sections.Sequence.{Sequence}
 use Rattle.machine_steps.specs.Layout.{Layout, in_bounds}
 use Rattle.machine_steps.specs.Machine.{remapped, with_mapping}
-use Rattle.machine_steps.specs.Message.{par_part, computes_left}
+use Rattle.machine_steps.specs.Message.{Part, message, par_part, computes_left}
 use Rattle.code_meaning.specs.Beside.{Anchor}
 use Rattle.code_meaning.specs.Anchors.{anchor_in}
 use Rattle.code_meaning.specs.Flat.{slot}
@@ -22,19 +24,21 @@ use Rattle.node_code.specs.Instructions as code
 use Rattle.node_code.specs.Instructions.{Instruction, NewMapping, Par, ParForall, ParNest, ParCopy, ParForallCopy, Remap}
 use Rattle.code_meaning.specs.Instructions.{remappings}
 use Rattle.code_meaning.specs.Parallel as parallel
+use Rattle.node_code.specs.declared.nest.NestRole.TheVariants.{Assigns}
+use Rattle.node_code.specs.Forms.{FlatForm}
 use Rattle.node_code.specs.Parallel.{When, Assignment, Evaluation}
 use Rattle.code_meaning.specs.Parallel.{reads_at, spot_of, indices_in, evaluation_extents, forall_tuples, forall_spot, forall_mask_tuples, copy_spot}
 use Rattle.program_code.specs.ExpressionCode.{index_subs, index_form}
-use Rattle.lowered_expressions.specs.Passed.{Passed, IsMaskCopy, AreSameForms, IsEvent, IsTrail}
+use Rattle.lowered_expressions.specs.Passed.{Passed, IsMaskCopy, AreSameForms, IsNestEvent, IsCopyEvent, IsEvent, IsTrail}
 use Rattle.lowered_expressions.specs.WellFormed.{AreSubscripts, IsIndexed}
 use Rattle.message_text.specs.Parts.{Setting, subscripts_in, named_in, mask_reads, anchor_over, part_of, with_copy, with_copies, with_copied}
-use Rattle.message_text.specs.MessageText.{part_lines, redistribution_lines, event_lines, trail_lines}
+use Rattle.message_text.specs.MessageText.{spot_text, spots_text, message_line, line_head, part_lines, redistribution_lines, event_lines, trail_lines}
 use Rattle.passed_states.specs.TrailLayouts as trail
 use Rattle.message_text.specs.InstructionLines.{instruction_lines}
 use Rattle.messages_lowered.specs.PassedText.{setting_by, passed_text}
 use Rattle.machine_steps.specs.Instr.{Remapping}
 use Rattle.statement_trail.specs.NestParts.{EnteredNest, NestPart, ScalarPart, ElementPart, ConditionPart}
-use Rattle.node_code.specs.NestStatements.{NestStatement}
+use Rattle.node_code.specs.NestStatements.{NestStatement, ElementLeft}
 use Rattle.code_meaning.specs.NestStatements.{nest_tuples, nest_spot, copies_extents}
 use Rattle.lowered_expressions.specs.NestEvents.{IsPart}
 use Rattle.message_text.specs.InstructionLines.{rows_after, copy_rows, nest_lines}
@@ -143,6 +147,59 @@ module _ (nodes : ℕ) (names : List (List ℕ)) (shapes : List (List Dim)) (map
     abbrev Same : Instruction → Event → Type 0
     Same x event = (instruction_lines maps s layouts x slots ≡ event_lines s layouts line scalars event) × (layouts_after maps x layouts ≡ moved s line event layouts)
 
+    nest-part-same : (q : NestStatement) (event : Event) → q.line ≡ line → IsNestEvent (length scalars) q slots event → Same (ParNest q) event
+    nest-part-same q event own h =
+        let e = nest-lines-same s layouts line scalars slots holds laid h.0 q h.1 h.2 h.4 h.5 h.6 h.7 h.8 in
+        let ls = with_copies s layouts (rows_after (length layouts) (copy_rows q)) (anchor_in slots q.over q.beside) (copies_extents q.over slots) in
+        subst (λ ev. (instruction_lines maps s layouts (ParNest q) slots ≡ event_lines s layouts line scalars ev) × (layouts ≡ moved s line ev layouts)) (sym h.3) (
+          noted q h.0 h.2 h.7 ∙ ap (λ l. part_lines (with_copied s q.copies q.names) ls l (par_part ls (nest_tuples s.shapes q) (nest_spot s.shapes q) slots)) own ∙ e,
+          refl,
+        )
+
+    -- a copy without a name is written as any other row that isn't declared
+    spots-alike : (copy : ℕ) (ls : List Layout) (spots : List Spot) → spots_text (with_copied s (copy ∷ []) []) ls spots ≡ spots_text s ls spots
+    spots-alike copy ls [] = refl
+    spots-alike copy ls (x ∷ spots) = ap (λ text. (codes " " ++ spot_text s ls x) ++ text) (spots-alike copy ls spots)
+
+    line-alike : (copy : ℕ) (head : List ℕ) (p q : ℕ) (ls : List Layout) (spots : List Spot)
+        → message_line head p q (with_copied s (copy ∷ []) []) ls spots ≡ message_line head p q s ls spots
+    line-alike copy head p q ls [] = refl
+    line-alike copy head p q ls (x ∷ spots) = ap (λ text. head ++ decimal p ++ codes " -> " ++ decimal q ++ codes ":" ++ text ++ codes "\n") (spots-alike copy ls (x ∷ spots))
+
+    lines-alike : (copy : ℕ) (ls : List Layout) (l : ℕ) (part : Part) → part_lines (with_copied s (copy ∷ []) []) ls l part ≡ part_lines s ls l part
+    lines-alike copy ls l part = λ i. flat_map (λ p. flat_map (λ q. line-alike copy (line_head l) p q ls (message s.nodes ls part p q) i) (range_with_len 0 s.nodes)) (range_with_len 0 s.nodes)
+
+    -- the copy stands right after the declared names
+    one-row : (k n : ℕ) → k ≡ n → rows_after k (n ∷ []) ≡ 1
+    one-row k n e = let one : n + 1 - k ≡ 1 = omega (arith, e) in ap (λ j. max j 0) one
+
+    copied-same : (q : NestStatement) (event : Event) → q.line ≡ line → IsCopyEvent (length scalars) q slots event → Same (ParNest q) event
+    copied-same q event own h =
+        let axes = h.0 in
+        let a = h.1 in
+        let ts = h.2 in
+        let n : ℕ = length scalars in
+        let sizes : extents (selections_in slots q.over) ≡ index_extents axes = ap extents h.5 ∙ axes-extents axes in
+        let ls = with_copy s layouts None (index_extents axes) in
+        let plain : NestStatement = record q { whens = []; copies = n ∷ []; names = []; left = ElementLeft a (index_subs ts); right = FlatForm h.3; role = Assigns; beside = None } in
+        let is : q ≡ plain = λ i. record q { whens = h.8 i; copies = h.9 i; names = h.10 i; left = h.6 i; right = h.7 i; role = h.11 i; beside = h.12 i } in
+        let spot-same : (u : ℕ) → nest_spot s.shapes plain slots u ≡ spot_of s.shapes a (subscripts_in scalars (indices_at axes u) ts) = λ u.
+        ap (λ y. spot_of s.shapes a (subscripts_at (selections_at slots y (index_subs ts)) y)) (indices-same q.over slots axes h.5 u)
+        ∙ ap (λ is. spot_of s.shapes a is) (subscripts-same s.shapes scalars slots holds (indices_at axes u) ts h.13) in
+        let part-same : par_part ls (nest_tuples s.shapes plain) (nest_spot s.shapes plain) slots ≡ part_of s ls scalars (CopyAssigned axes a ts) = λ i. record {
+          tuples = space_count (sizes i);
+          reads = λ u. Some (record { row = n; at = u }) ∷ [];
+          computes = λ node u. computes_left ls node (in_bounds ls (spot-same u i));
+        } in
+        subst (λ ev. (instruction_lines maps s layouts (ParNest q) slots ≡ event_lines s layouts line scalars ev) × (layouts ≡ moved s line ev layouts)) (sym h.4) (
+          ap (λ r. instruction_lines maps s layouts (ParNest r) slots) is
+              ∙ (λ i. part_lines (with_copied s (n ∷ []) []) (with_copies s layouts (one-row (length layouts) n laid i) None (sizes i)) (own i)
+              (par_part (with_copies s layouts (one-row (length layouts) n laid i) None (sizes i)) (nest_tuples s.shapes plain) (nest_spot s.shapes plain) slots))
+              ∙ lines-alike n ls line (par_part ls (nest_tuples s.shapes plain) (nest_spot s.shapes plain) slots)
+              ∙ ap (part_lines s ls line) part-same,
+          refl,
+        )
+
     lines-same : (x : Instruction) (event : Event) → IsEvent moves (length scalars) x slots line event → Same x event
     lines-same (Par q) event h =
         let ns = extents (selections_in slots q.over) in
@@ -196,13 +253,7 @@ module _ (nodes : ℕ) (names : List (List ℕ)) (shapes : List (List Dim)) (map
               ∙ ap (part_lines s ls line) (forall-mask-same copy q beside axes h.1.2 h.1.4 h.1.5 h.1.6 h.1.7 ls),
           refl,
         )
-    lines-same (ParNest q) event h =
-        let e = nest-lines-same s layouts line scalars slots holds laid h.1.0 q h.1.1 h.1.2 h.1.4 h.1.5 h.1.6 h.1.7 h.1.8 in
-        let ls = with_copies s layouts (rows_after (length layouts) (copy_rows q)) (anchor_in slots q.over q.beside) (copies_extents q.over slots) in
-        subst (λ ev. (instruction_lines maps s layouts (ParNest q) slots ≡ event_lines s layouts line scalars ev) × (layouts ≡ moved s line ev layouts)) (sym h.1.3) (
-          noted q h.1.0 h.1.2 h.1.7 ∙ ap (λ l. part_lines (with_copied s q.copies q.names) ls l (par_part ls (nest_tuples s.shapes q) (nest_spot s.shapes q) slots)) h.0 ∙ e,
-          refl,
-        )
+    lines-same (ParNest q) event h = ⊎_elim (nest-part-same q event h.0) (copied-same q event h.0) h.1
     lines-same (Remap l new) event h =
         subst (λ ev. (instruction_lines maps s layouts (Remap l new) slots ≡ event_lines s layouts line scalars ev)
         × (remapped (remappings maps new) layouts ≡ moved s line ev layouts)) (sym h.1) (

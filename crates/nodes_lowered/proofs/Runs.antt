@@ -46,7 +46,7 @@ use Rattle.nodes_lowered.specs.TrailOnNodes.{TrailOnNodes}
 use Rattle.nodes_lowered.proofs.Laid.{laid-many, names-many, opening-whole}
 use Rattle.nodes_lowered.proofs.LastNodes.{ended-so, last-nodes}
 use Rattle.nodes_lowered.proofs.SameCode.{steps-code}
-use Rattle.nodes_lowered.proofs.Tables.{tables-are}
+use Rattle.nodes_lowered.proofs.Tables.{blocks-are, tables-are}
 
 -- a run that has ended is over
 end-over : (s : Status Fault) (e : End) → end_by_status s ≡ Some e → IsOver s
@@ -76,6 +76,7 @@ module _ (nodes : ℕ) (p : MainProgram) (maps : List Mapping) (moves : ℕ → 
 
   valid-code : IsValidCode (meaning_of table) nodes shapes m.code
   valid-code = valid nodes p shapes table moves (omega (arith, as_many)) (λ layouts owned anchor extents. are-dealt nodes layouts anchor extents some owned) same_layouts
+      (blocks-are nodes maps (program_shapes p) some)
       (λ line. (dealt line, λ ls declared owned. rounds-cover nodes (remappings maps (moves line)) ls owned)) rules.resolved rules.bodies_fine
 
   -- the declared names lie after steps as the trail says that is passed

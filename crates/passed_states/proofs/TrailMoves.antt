@@ -1,5 +1,5 @@
 -- What is passed moves arrays as the trail that it is.
-use Rattle.std.proofs.Common.{◌≡◌, ℕ, List, [], ◌∷◌, ℤ, refl, sym, ap, ◌∙◌}
+use Rattle.std.proofs.Common.{◌≡◌, ℕ, List, [], ◌∷◌, ℤ, refl, sym, ap, ◌∙◌, ⊎_elim}
 use Rattle.mappings.specs.declared.mapping.Mapping.{Mapping}
 use Rattle.machine_steps.specs.Layout.{Layout}
 use Rattle.machine_steps.specs.Machine.{remapped}
@@ -22,7 +22,7 @@ module _ (maps : List Mapping) (moves : ℕ → List NewMapping) where
   one-moves n (Reduce p r x) slots line event layouts h = ap (λ e. Moved line e layouts) (sym h.1.1)
   one-moves n (ParForall p) slots line event layouts h = ap (λ e. Moved line e layouts) (sym h.1.4)
   one-moves n (ParForallCopy copy p) slots line event layouts h = ap (λ e. Moved line e layouts) (sym h.1.3)
-  one-moves n (ParNest p) slots line event layouts h = ap (λ e. Moved line e layouts) (sym h.1.3)
+  one-moves n (ParNest p) slots line event layouts h = ⊎_elim (λ g. ap (λ e. Moved line e layouts) (sym g.3)) (λ g. ap (λ e. Moved line e layouts) (sym g.4)) h.1
   one-moves n (Remap l new) slots line event layouts h = ap (λ new. remapped (remappings maps new) layouts) h.2 ∙ ap (λ e. Moved line e layouts) (sym h.1)
   one-moves n i slots line event layouts h = absurd h
 

@@ -22,10 +22,10 @@ use Rattle.array_meaning.specs.Execution.{run_block}
 use Rattle.array_meaning.specs.Resolution.{resolved_block, initial_array, initial_scalar, initial_state}
 use Rattle.statement_trail.specs.Trail.{serial_trail}
 use Rattle.machine_steps.specs.Agrees.{IsValidCode, IsValidInstr}
-use Rattle.machine_steps.specs.Layout.{AreOwned, IsDealt, Layout}
+use Rattle.machine_steps.specs.Layout.{AreOwned, IsDealt, IsInBlocks, Layout}
 use Rattle.machine_steps.specs.SameLayouts.{is_same_layout}
 use Rattle.code_meaning.specs.Beside.{Anchor}
-use Rattle.code_meaning.specs.Instructions.{ArrayTable, meaning_of}
+use Rattle.code_meaning.specs.Instructions.{ArrayTable, lies_alone, meaning_of}
 use Rattle.node_code.specs.Instructions.{NewMapping, Remap}
 use Rattle.lowering.specs.Lowered.{IsState, IsTable, MachineEnds, MachinePasses, opening}
 use Rattle.code_meaning.specs.ValidCode.{CodeTable, IsValid, IsValidNodeCode}
@@ -91,10 +91,11 @@ module _ (p : MainProgram) (room : ℕ) (moves : ℕ → List NewMapping) (table
 pub valid : (count : ℕ) (p : MainProgram) (shapes : List Shape) (table : ArrayTable) (moves : ℕ → List NewMapping) → length shapes ≤ length (entries p) →
     ((layouts : List Layout) → AreOwned count layouts → (anchor : Option Anchor) (extents : List ℕ) → IsDealt count (table.copies layouts anchor extents)) →
     ((one other : Layout) → is_same_layout one other ≡ true → one ≡ other) →
+    ((layout : Layout) → lies_alone table layout ≡ true → IsInBlocks count layout) →
     ((line : ℕ) → IsValidInstr count shapes (meaning_of table (Remap line (moves line)))) → HasNoBreach p → NoBreach (Among (body_breaches (entries p) p.body)) →
     IsValidCode (meaning_of table) count shapes (program_code (length (entries p)) moves (resolved_block (entries p) p.body))
-valid count p shapes table moves few dealt same moving rules bodies =
-    code-valid count (length (entries p)) shapes table moves few dealt same moving (resolved_block (entries p) p.body) (well_formed p rules.names bodies)
+valid count p shapes table moves few dealt same blocks moving rules bodies =
+    code-valid count (length (entries p)) shapes table moves few dealt same blocks moving (resolved_block (entries p) p.body) (well_formed p rules.names bodies)
 
 -- where all that is declared is known
 pub ranked : (p : MainProgram) → AllAreKnown p → HasNoBreach p → KeepsAllRanks p

@@ -13,10 +13,10 @@ ghost use Rattle.array_meaning.specs.Execution.{run_block};
 ghost use Rattle.array_meaning.specs.Resolution.{resolved_block, initial_state};
 ghost use Rattle.statement_trail.specs.Trail.{serial_trail};
 ghost use Rattle.machine_steps.specs.Agrees.{IsValidCode, IsValidInstr};
-ghost use Rattle.machine_steps.specs.Layout.{AreOwned, IsDealt, Layout};
+ghost use Rattle.machine_steps.specs.Layout.{AreOwned, IsDealt, IsInBlocks, Layout};
 ghost use Rattle.machine_steps.specs.SameLayouts.{is_same_layout};
 ghost use Rattle.code_meaning.specs.Beside.{Anchor};
-ghost use Rattle.code_meaning.specs.Instructions.{ArrayTable, meaning_of};
+ghost use Rattle.code_meaning.specs.Instructions.{ArrayTable, lies_alone, meaning_of};
 ghost use Rattle.node_code.specs.Instructions.{NewMapping, Remap};
 ghost use Rattle.code_meaning.specs.ValidCode.{CodeTable, IsValid, IsValidNodeCode};
 ghost use Rattle.lowering.specs.Lowered.{IsTable, MachineEnds, MachinePasses, opening};
@@ -69,6 +69,7 @@ pub fn accepted_code_is_valid()
         → length shapes ≤ length (entries p)
         → ((layouts : List Layout) → AreOwned count layouts → (anchor : Option Anchor) (extents : List ℕ) → IsDealt count (table.copies layouts anchor extents))
         → ((one other : Layout) → is_same_layout one other ≡ true → one ≡ other)
+        → ((layout : Layout) → lies_alone table layout ≡ true → IsInBlocks count layout)
         → ((line : ℕ) → IsValidInstr count shapes (meaning_of table (Remap line (moves line))))
         → HasNoBreach p → NoBreach (Among (body_breaches (entries p) p.body))
         → IsValidCode (meaning_of table) count shapes (program_code (length (entries p)) moves (resolved_block (entries p) p.body)) }
