@@ -1,4 +1,5 @@
-//! CSHIFT and TRANSPOSE of whole arrays with their names resolved (Fortran 95, 13.14.25 and 13.14.114). An `Err` is want of memory here.
+//! CSHIFT, TRANSPOSE and SUM_PREFIX of whole arrays with their names resolved (Fortran 95, 13.14.25 and 13.14.114; HPF 2.0, 7.4). An `Err` is
+//! want of memory here.
 
 ghost use Rattle.std.specs.Prelude.{◌≡◌, Some, option_copied, option_map, unwrap_or, IfOk};
 ghost use Rattle.syntax_tree.specs.Expression.{arguments_of, expression};
@@ -49,6 +50,7 @@ fn called(
     match op {
         Op::CShift => shift(alloc, names, left, arguments),
         Op::Transpose => transposition(alloc, names, left, arguments),
+        Op::SumPrefix => prefix_sum(alloc, names, left, arguments),
         _ => Ok(None),
     }
 }
@@ -99,6 +101,25 @@ fn transposition(
         return Ok(None);
     }
     between(alloc, names, left, source, Transformation::Transposition)
+}
+
+/// SUM_PREFIX of this argument.
+fn prefix_sum(
+    alloc: Global,
+    names: &Names,
+    left: &Ref,
+    arguments: &[Expr],
+) -> Result<Option<Action>, OutOfMemory>
+    ensures { IfOk result (λ a. (other : Statement) → unwrap_or (option_map statement a) other
+        ≡ transform_or names.now (expression (expr.Ref left.now)) (transformation_by names.now op.SumPrefix (arguments_of arguments.now)) other) }
+{
+    let Some((source, more)) = arguments.split_first() else {
+        return Ok(None);
+    };
+    if let Some(_) = more.split_first() {
+        return Ok(None);
+    }
+    between(alloc, names, left, source, Transformation::PrefixSum)
 }
 
 /// A transformation, if both of these are whole arrays.
