@@ -7,4 +7,5 @@ mod StoredSections
 mod TransformedColumns
 mod TransformedStores
 mod NamedValues
+mod PrefixSums
 mod PositionTuples

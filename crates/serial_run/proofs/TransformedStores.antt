@@ -1,15 +1,14 @@
--- Circular shifts and transposes, by what they store.
-use Rattle.std.proofs.Common.{◌≡◌, ℕ, zero, suc, ◌+◌, List, ℤ, pos, Bool, true, false, if◌then◌else◌, map, refl, ap, Some, Result, Ok, Err}
-use Rattle.std.specs.Prelude.{slice_index_or}
+-- Circular shifts, transposes and prefix sums, by what they store.
+use Rattle.std.proofs.Common.{◌≡◌, ℕ, zero, suc, ◌+◌, List, ℤ, Bool, true, false, if◌then◌else◌, map, refl, ap, Some, Result, Ok, Err}
 use Rattle.std.specs.List.{range_with_len}
 use Rattle.hpf_base.specs.ElementOrder.{product}
 use Rattle.array_meaning.specs.declared.faults.FaultKind.TheVariants.{Shape}
 use Rattle.array_meaning.specs.Faults.{Cause, ◌>>=◌, fails}
 use Rattle.array_meaning.specs.State.{State, array, store, store_all}
 use Rattle.array_meaning.specs.Statements.{WholeArray, Transformation}
-use Rattle.array_meaning.specs.Transformations.{extents_of, has_shape, shift_of, source_place, transform, transformed}
+use Rattle.array_meaning.specs.Transformations.{extents_of, has_shape, shift_of, transform, transformed, value_at}
 use Rattle.term_values.specs.Runs.{store_run}
-use Rattle.serial_run.specs.TransformedValues.{elements_at, transformed_values}
+use Rattle.serial_run.specs.TransformedValues.{all_values, transformed_values}
 
 -- a value for each place from one on is stored as a run
 run_stored : (a : ℕ) (f : ℕ → ℤ) (n first : ℕ) (s : State)
@@ -21,11 +20,11 @@ pub transform_is : (x y : WholeArray) (how : Transformation) (s : State)
     → transformed_values x y how s >>= (λ values. Ok (store_run s x.array 0 values)) ≡ transform x y how s
 transform_is x y how s = by (shift_of s how) where
   values : ℤ → List ℤ
-  values k = elements_at (array s y.array).elements (source_place how k (extents_of x)) 0 (product (extents_of x))
+  values k = all_values how k (extents_of x) (array s y.array).elements
 
   shaped : (k : ℤ) (fits : Bool)
       → (if fits then Ok (values k) else fails Shape) >>= (λ vs. Ok (store_run s x.array 0 vs)) ≡ (if fits then Ok (store_all s x.array (transformed x y how k s)) else fails Shape)
-  shaped k true = ap Ok (run_stored x.array (λ t. slice_index_or (array s y.array).elements (source_place how k (extents_of x) t) (pos 0)) (product (extents_of x)) 0 s)
+  shaped k true = ap Ok (run_stored x.array (λ t. value_at how k (extents_of x) (array s y.array).elements t) (product (extents_of x)) 0 s)
   shaped k false = refl
 
   by : (r : Result ℤ Cause)

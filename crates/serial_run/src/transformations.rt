@@ -1,4 +1,4 @@
-//! Circular shifts and transposes of whole arrays (Fortran 95, 13.14.25 and 13.14.114).
+//! Circular shifts, transposes and prefix sums of whole arrays (Fortran 95, 13.14.25 and 13.14.114; HPF 2.0, 7.4).
 
 ghost use Rattle.std.specs.Prelude.{◌≡◌, IfErr, IfOk, Ok, OnOk, map};
 ghost use Rattle.expression_rules.specs.Dims.{AreDims, extent};
@@ -12,14 +12,14 @@ ghost use Rattle.serial_run.specs.Completions.{IsRun, IsStopped};
 ghost use Rattle.serial_run.specs.TransformedValues.{transformed_values};
 
 use crate::completion::{Completion, ended};
-use crate::transformed_columns::elements_by;
+use crate::transformed_columns::values_by;
 use array_meaning::FaultKind;
 use expression_rules::{Dim, extent};
 use resolved_program::{Transformation, WholeArray};
 use std::alloc::{AllocError, Global};
 use term_values::{State, Stop, fault, value};
 
-/// Runs a circular shift or a transpose.
+/// Runs a circular shift, a transpose or a prefix sum.
 #[inline(never)]
 pub(crate) fn run_transform(
     s: &mut State,
@@ -64,18 +64,18 @@ fn transformed_values(
     if !has_shape(*s.scalars.allocator(), target, source, how)? {
         return Err(fault(FaultKind::Shape));
     }
-    let values = elements_by(s, source.array, target.dims.as_slice(), how, by)?;
+    let values = values_by(s, source.array, target.dims.as_slice(), how, by)?;
     Ok(values)
 }
 
-/// The number of places of a shift, which is evaluated once; 0 of a transpose.
+/// The number of places of a shift, which is evaluated once; 0 of anything else.
 fn shift_of(s: &State, how: &Transformation) -> Result<i64, Stop>
     ensures value { IfOk result (λ k. shift_of (state_of s.now) (transformation how.now) ≡ Ok k) }
     ensures stopped { IfErr result (IsStop (shift_of (state_of s.now) (transformation how.now))) }
 {
     match how {
         Transformation::CircularShift(by) => value(s, &[], by),
-        Transformation::Transposition => Ok(0),
+        Transformation::Transposition | Transformation::PrefixSum => Ok(0),
     }
 }
 
@@ -91,7 +91,7 @@ fn has_shape(
     let own = extents(alloc, target.dims.as_slice())?;
     let mut taken = extents(alloc, source.dims.as_slice())?;
     match how {
-        Transformation::CircularShift(_) => {}
+        Transformation::CircularShift(_) | Transformation::PrefixSum => {}
         Transformation::Transposition => taken.reverse(),
     }
     Ok(*taken.as_slice() == *own.as_slice())

@@ -1,4 +1,4 @@
-//! The values that a circular shift or a transpose takes from its source, column by column of the target. An `Err` is want of memory here.
+//! The values that a circular shift, a transpose or a prefix sum makes of its source, column by column of the target. An `Err` is want of memory here.
 
 ghost use Rattle.std.specs.Prelude.{◌≡◌, ◌≤◌, ◌<◌, ◌+◌, ◌*◌, ◌++◌, ◌∷◌, [], IfOk, OnOk, ℕ, map, pos, unsigned_abs, slice_index_or};
 ghost use Rattle.std.specs.Int.{int_rem_euclid};
@@ -6,18 +6,19 @@ ghost use Rattle.hpf_base.specs.ElementOrder.{product};
 ghost use Rattle.hpf_base.specs.declared.limits.TheConstants.{MAX_BOUND, MAX_ELEMENTS};
 ghost use Rattle.expression_rules.specs.Dims.{AreDims, extent};
 ghost use Rattle.array_meaning.specs.State.{array};
-ghost use Rattle.array_meaning.specs.Transformations.{shifted_place, source_place, transposed_place};
+ghost use Rattle.array_meaning.specs.Transformations.{shifted_place, transposed_place};
 ghost use Rattle.resolved_program.specs.Resolved.{transformation};
 ghost use Rattle.term_values.specs.States.{state_of};
-ghost use Rattle.serial_run.specs.TransformedValues.{elements_at, turned_place};
+ghost use Rattle.serial_run.specs.TransformedValues.{all_values, elements_at, sums_of, turned_place};
 
 use expression_rules::{Dim, extent, size};
+use op_tables::Join;
 use resolved_program::Transformation;
 use std::alloc::{AllocError, Global};
 use term_values::State;
 
-/// The elements of an array that come to a target with these dimensions, in order.
-pub(crate) fn elements_by(
+/// The values that come of an array to a target with these dimensions, in order.
+pub(crate) fn values_by(
     s: &State,
     source: usize,
     dims: &[Dim],
@@ -25,12 +26,13 @@ pub(crate) fn elements_by(
     by: i64,
 ) -> Result<Vec<i64>, AllocError>
     requires { AreDims dims.now }
-    ensures { IfOk result (λ v. v.items ≡ elements_at (array (state_of s.now) source).elements (source_place (transformation how.now) by (map extent dims.now)) 0 (product (map extent dims.now))) }
+    ensures { IfOk result (λ v. v.items ≡ all_values (transformation how.now) by (map extent dims.now) (array (state_of s.now) source).elements) }
 {
     let elements = elements_of(s, source);
     match how {
         Transformation::CircularShift(_) => shifted(*s.scalars.allocator(), elements, dims, by),
         Transformation::Transposition => transposed(*s.scalars.allocator(), elements, dims),
+        Transformation::PrefixSum => summed(*s.scalars.allocator(), elements, dims),
     }
 }
 
@@ -184,6 +186,31 @@ fn add_steps(
         place += step;
     }
     Ok(())
+}
+
+// ---- prefix sums
+
+/// The sums of the elements up to each place of a target with these dimensions.
+#[tactic(auto, using(crate::proofs::TransformedColumns::size_is))]
+fn summed(alloc: Global, elements: &[i64], dims: &[Dim]) -> Result<Vec<i64>, AllocError>
+    requires { AreDims dims.now }
+    ensures { IfOk result (λ v. v.items ≡ sums_of elements.now (product (map extent dims.now))) }
+{
+    sums(alloc, elements, size(dims) as usize)
+}
+
+/// The sums of the elements up to each of so many places. Each is wrapped to 64 bits, and where there is no element, one adds nothing.
+fn sums(alloc: Global, elements: &[i64], count: usize) -> Result<Vec<i64>, AllocError>
+    requires { count ≤ MAX_ELEMENTS }
+    ensures { IfOk result (λ v. v.items ≡ sums_of elements.now count) }
+{
+    let mut values = Vec::with_capacity(alloc, count)?;
+    let mut sum = Join::Sum.unit();
+    for place in 0..count {
+        sum = Join::Sum.join(sum, element_at(elements, place));
+        values.push(sum)?;
+    }
+    Ok(values)
 }
 
 // ---- elements in order
