@@ -34,10 +34,10 @@ transposed_place ns t = t
 -- ---- values
 
 -- the value at a place of a target of these extents, by the values of the source: a prefix sum is that of the values up to the place, in 64 bits
-abbrev pub value_at : Transformation → ℤ → List ℕ → List ℤ → ℕ → ℤ
-value_at (CircularShift by) k ns values t = slice_index_or values (shifted_place k ns t) (pos 0)
-value_at Transposition k ns values t = slice_index_or values (transposed_place ns t) (pos 0)
-value_at PrefixSum k ns values t = fold (join Sum) (unit Sum) (take (t + 1) values)
+abbrev pub transformed_value : Transformation → ℤ → List ℕ → List ℤ → ℕ → ℤ
+transformed_value (CircularShift by) k ns values t = slice_index_or values (shifted_place k ns t) (pos 0)
+transformed_value Transposition k ns values t = slice_index_or values (transposed_place ns t) (pos 0)
+transformed_value PrefixSum k ns values t = fold (join Sum) (unit Sum) (take (t + 1) values)
 
 -- ---- the statement
 
@@ -56,7 +56,7 @@ has_shape x y PrefixSum = bytes_eq (extents_of y) (extents_of x)
 -- what each place of the target gets
 abbrev pub transformed : WholeArray → WholeArray → Transformation → ℤ → State → List (Option Store)
 transformed x y how k s =
-    map (λ t. Some record { place = t; value = value_at how k (extents_of x) (array s y.array).elements t })
+    map (λ t. Some record { place = t; value = transformed_value how k (extents_of x) (array s y.array).elements t })
     (range_with_len 0 (product (extents_of x)))
 
 -- the number comes before the shapes, and all values are taken before any is stored

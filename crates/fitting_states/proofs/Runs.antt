@@ -21,7 +21,7 @@ use Rattle.array_meaning.specs.Elementals.{Elemental, sections, value_at, each, 
 use Rattle.array_meaning.specs.Expressions.{value, values, elemental, selections, index_values, all_index_values}
 use Rattle.array_meaning.specs.ArrayAssignments.{Mask, mask_of, negated_mask, store_at, if_true, assign_elemental, assign_section, assign_where, assign_all_where, run_where}
 use Rattle.array_meaning.specs.Forall.{index_extents, indices_at, all_subscripts, check, check_limits, check_one_to_one, is_forall_in_limits, is_one_to_one, mask_over, assign_forall, assign_all_forall, run_forall}
-use Rattle.array_meaning.specs.Transformations.{extents_of, shifted_place, transposed_place, value_at as transformed_value, shift_of, has_shape, transformed, transform}
+use Rattle.array_meaning.specs.Transformations.{extents_of, shifted_place, transposed_place, transformed_value, shift_of, has_shape, transformed, transform}
 use Rattle.array_meaning.specs.Iterations.{nest_axes, iteration_count}
 use Rattle.array_meaning.specs.Touches.{iteration_touches}
 use Rattle.array_meaning.specs.Clashes.{Clash, first_clash}

@@ -6,7 +6,7 @@ use Rattle.array_meaning.specs.declared.faults.FaultKind.TheVariants.{Shape}
 use Rattle.array_meaning.specs.Faults.{Cause, ◌>>=◌, fails}
 use Rattle.array_meaning.specs.State.{State, array, store, store_all}
 use Rattle.array_meaning.specs.Statements.{WholeArray, Transformation}
-use Rattle.array_meaning.specs.Transformations.{extents_of, has_shape, shift_of, transform, transformed, value_at}
+use Rattle.array_meaning.specs.Transformations.{extents_of, has_shape, shift_of, transform, transformed, transformed_value}
 use Rattle.term_values.specs.Runs.{store_run}
 use Rattle.serial_run.specs.TransformedValues.{all_values, transformed_values}
 
@@ -24,7 +24,7 @@ transform_is x y how s = by (shift_of s how) where
 
   shaped : (k : ℤ) (fits : Bool)
       → (if fits then Ok (values k) else fails Shape) >>= (λ vs. Ok (store_run s x.array 0 vs)) ≡ (if fits then Ok (store_all s x.array (transformed x y how k s)) else fails Shape)
-  shaped k true = ap Ok (run_stored x.array (λ t. value_at how k (extents_of x) (array s y.array).elements t) (product (extents_of x)) 0 s)
+  shaped k true = ap Ok (run_stored x.array (λ t. transformed_value how k (extents_of x) (array s y.array).elements t) (product (extents_of x)) 0 s)
   shaped k false = refl
 
   by : (r : Result ℤ Cause)

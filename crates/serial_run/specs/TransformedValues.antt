@@ -9,7 +9,7 @@ use Rattle.array_meaning.specs.declared.faults.FaultKind.TheVariants.{Shape}
 use Rattle.array_meaning.specs.Faults.{Cause, ◌>>=◌, fails}
 use Rattle.array_meaning.specs.State.{State, array}
 use Rattle.array_meaning.specs.Statements.{WholeArray, Transformation}
-use Rattle.array_meaning.specs.Transformations.{extents_of, has_shape, shift_of, value_at}
+use Rattle.array_meaning.specs.Transformations.{extents_of, has_shape, shift_of, transformed_value}
 
 -- the elements at the places of so many numbers from one on; 0 where there is no such place
 abbrev pub elements_at : List ℤ → (ℕ → ℕ) → ℕ → ℕ → List ℤ
@@ -25,7 +25,7 @@ sums_of xs count = map (λ t. fold (join Sum) (unit Sum) (take (t + 1) xs)) (ran
 
 -- the values at all places of a target with these extents
 abbrev pub all_values : Transformation → ℤ → List ℕ → List ℤ → List ℤ
-all_values how k ns xs = map (λ t. value_at how k ns xs t) (range_with_len 0 (product ns))
+all_values how k ns xs = map (λ t. transformed_value how k ns xs t) (range_with_len 0 (product ns))
 
 -- all values of the target in order, or the fault
 abbrev pub transformed_values : WholeArray → WholeArray → Transformation → State → Result (List ℤ) Cause

@@ -15,7 +15,7 @@ use Rattle.array_meaning.specs.Forall.{assign_forall, indices_at}
 use Rattle.array_meaning.specs.State.{State, array, element, element_place, if_in_bounds, place_in, store_all}
 use Rattle.array_meaning.specs.Statements.{WholeArray, Transformation, CircularShift, Transposition, PrefixSum}
 use Rattle.array_meaning.specs.Terms.{Term, Number}
-use Rattle.array_meaning.specs.Transformations.{extents_of, has_shape, shifted_place, transformed, transposed_place, value_at}
+use Rattle.array_meaning.specs.Transformations.{extents_of, has_shape, shifted_place, transformed, transposed_place, transformed_value}
 use Rattle.array_meaning.specs.declared.sections.Store.{Store}
 use Rattle.statement_trail.specs.TransformedElements.{axes_of, indices_from, source_element, source_subscripts, turn_of}
 use Rattle.transformed_elements.proofs.Places.{first-place, indices-are, place-is, subscripts_of}
@@ -31,7 +31,7 @@ source_place Transposition k ns t = transposed_place ns t
 source_place PrefixSum k ns t = t
 
 value-by-place : (how : Transformation) (k : ℤ) (ns : List ℕ) (elements : List ℤ) (t : ℕ) → how ≢ PrefixSum
-    → value_at how k ns elements t ≡ slice_index_or elements (source_place how k ns t) (pos 0)
+    → transformed_value how k ns elements t ≡ slice_index_or elements (source_place how k ns t) (pos 0)
 value-by-place (CircularShift by) k ns elements t moves = refl
 value-by-place Transposition k ns elements t moves = refl
 value-by-place PrefixSum k ns elements t moves = absurd (moves refl)
@@ -92,7 +92,7 @@ source x y how k = source_element x y how (Number (turn_of x k))
 
 -- what is stored at a tuple, and its evaluation
 abbrev store_of : State → WholeArray → WholeArray → Transformation → ℤ → ℕ → Option Store
-store_of s x y how k t = Some record { place = t; value = value_at how k (extents_of x) (array s y.array).elements t }
+store_of s x y how k t = Some record { place = t; value = transformed_value how k (extents_of x) (array s y.array).elements t }
 
 abbrev stored_at : State → WholeArray → WholeArray → Transformation → ℤ → ℕ → Result (Option Store) Cause
 stored_at s x y how k t =
@@ -125,7 +125,7 @@ module _ (s : State) (x y : WholeArray) (how : Transformation) (k : ℤ) (known 
       ap (λ ds. if_in_bounds (element_place ds (subscripts_of x.dims t))) dims ∙ ap if_in_bounds (place-is x.dims t below) in
       let right : place_in s y.array (subscripts_of y.dims from) ≡ Ok from =
       ap (λ ds. if_in_bounds (element_place ds (subscripts_of y.dims from))) dims' ∙ ap if_in_bounds (source-named x y how k t moves fits even rank below) in
-      let taken : value (indices_at (axes_of x) t) s (source x y how k) ≡ Ok (value_at how k (extents_of x) (array s y.array).elements t) =
+      let taken : value (indices_at (axes_of x) t) s (source x y how k) ≡ Ok (transformed_value how k (extents_of x) (array s y.array).elements t) =
       ap (λ r. r >>= element s y.array) (source-subscripts t below) ∙ ap (λ r. r >>= (λ p. Ok (slice_index_or (array s y.array).elements p (pos 0)))) right
       ∙ ap Ok (sym (value-by-place how k (extents_of x) (array s y.array).elements t moves)) in
       ap (λ r. r >>= (λ is. store_at s x.array is (value (indices_at (axes_of x) t) s (source x y how k)))) (target-subscripts s x t known below)
