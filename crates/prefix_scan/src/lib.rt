@@ -1,5 +1,5 @@
 //! Rounds of a prefix scan over nodes, after which every node has the values of the nodes up to it, joined: the parallel prefix by doubling
-//! of Hillis and Steele, for functions such as SUM_PREFIX (HPF 2.0, 7). Nothing stands on it yet.
+//! of Hillis and Steele, for functions such as SUM_PREFIX (HPF 2.0, 7).
 //!
 //! Comes in: a number of nodes, a round and a node; or a fold and the values of all nodes. Goes out: to whom the node sends in that round and
 //! from whom it takes; and the values of the nodes below it, joined from the left. What holds in between: in round r node p sends what it has
