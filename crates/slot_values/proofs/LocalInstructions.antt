@@ -3,7 +3,7 @@ use Rattle.std.proofs.Common.{◌≡◌, true, refl}
 use Rattle.std.proofs.lemmas.Bool.{false≢true}
 use Rattle.machine_steps.specs.Instr.{Local}
 use Rattle.code_meaning.specs.Instructions.{ArrayTable, meaning_of}
-use Rattle.node_code.specs.Instructions.{Instruction, Set, Fetch, Store, TestBounds, TestStride, Trips, Jump, JumpIfZero, Halt, Limits, OwnLimits, ForallLimits, OneToOne, Check, Par, ParForall, ParNest, MakeCopies, MakeCopy, ParCopy, ParForallCopy, Verdict, Reduce, Inside, Print, FoldCopy, LastCopy, Remap}
+use Rattle.node_code.specs.Instructions.{Instruction, Set, Fetch, Store, TestBounds, TestStride, Trips, Jump, JumpIfZero, Halt, Limits, OwnLimits, ForallLimits, OneToOne, Check, Par, ParForall, ParNest, MakeCopies, MakeCopy, ParCopy, ParForallCopy, Verdict, Reduce, Inside, Print, FoldCopy, LastCopy, ScanCopy, Remap}
 use Rattle.slot_values.specs.LocalInstructions.{is_local, local_control}
 
 pub local_meaning : (table : ArrayTable) (i : Instruction) → is_local i ≡ true → meaning_of table i ≡ Local (local_control table.shapes i)
@@ -34,4 +34,5 @@ local_meaning table (Inside line a subs) h = refl
 local_meaning table (Print items) h = absurd (false≢true h)
 local_meaning table (FoldCopy copy o x) h = absurd (false≢true h)
 local_meaning table (LastCopy copy set x) h = absurd (false≢true h)
+local_meaning table (ScanCopy copy o) h = absurd (false≢true h)
 local_meaning table (Remap line new) h = absurd (false≢true h)

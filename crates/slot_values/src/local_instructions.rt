@@ -48,6 +48,7 @@ pub fn is_local(i: &Instruction) -> bool
         Instruction::Print(_) => false,
         Instruction::FoldCopy { .. } => false,
         Instruction::LastCopy { .. } => false,
+        Instruction::ScanCopy { .. } => false,
         Instruction::Remap { .. } => false,
     }
 }
