@@ -1,2 +1,2 @@
 mod Acting
-mod Passing
+pub mod Passing

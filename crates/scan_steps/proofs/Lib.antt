@@ -1,0 +1,2 @@
+pub mod InPlace
+mod Targets
