@@ -12,7 +12,7 @@
 //! - A statement's code comes to a place with the slots and rows of the state that the statement leaves: after itself, or where EXIT or
 //!   CYCLE go; or the run ends, finished or with the statement's fault.
 //! - Each parallel statement that may fault has a Verdict of its own. The keys of faults ascend with the tuples, so its fault is the first one.
-//!   That of a shift or a transpose can't, and no Verdict stands after it.
+//!   Those of a shift, a transpose or a prefix sum can't, and no Verdict stands after them.
 //! - Targets are places of the whole code. Slots from `b` on are free for a statement; a DO keeps four from its body.
 //! - Rows are the declared names, by their places, and then the copies that the code names: `block_copies` of them.
 //!

@@ -11,8 +11,8 @@
 //! - `Instr`, `Machine`: the *reference machine*. It runs one instruction at a step, but for a Reduce and a Print, which have
 //!   several steps. It is total: a read of no element is 0, a store to none changes nothing, past the code's end the run is
 //!   finished.
-//! - `Message`, `Tree`: who sends which elements to whom in the phase of a part, in a round of a redistribution and in a tree.
-//!   A Verdict is an *all-reduce*, up a tree and down, of the faults that nodes keep, by the first of them.
+//! - `Message`, `Tree`: who sends which elements to whom in the phase of a part, in a round of a redistribution, in a tree and in a
+//!   *scan* (a parallel prefix). A Verdict is an *all-reduce*, up a tree and down, of the faults that nodes keep, by the first of them.
 //! - `Node`: a node makes the same steps of its instructions, with letters in phases. In each phase it opens by a local step, sends in
 //!   ascending order of targets and then takes in ascending order of sources; the last of these moves turns its phase number.
 //! - `Agrees`: a node that agrees with the machine is the one that is made of it: all is alike but for its number, its pieces, the fault

@@ -14,8 +14,8 @@
 //! - `pieces`: who owns what, and what a node's piece is, by the definitions of mapped arrays.
 //!
 //! What holds in between: no law of runs looks into who owns what, so an element may have several owners. The simulation is one lemma an
-//! instruction (`proofs/`): an instruction without a phase is a local step, a message phase is one exchange, a tree and a
-//! redistribution are rounds of exchanges, and segments of a lockstep run are put together. Each lemma says too what its phases carry, and
+//! instruction (`proofs/`): an instruction without a phase is a local step, a message phase is one exchange, a tree, a scan
+//! and a redistribution are rounds of exchanges, and segments of a lockstep run are put together. Each lemma says too what its phases carry, and
 //! what the nodes have for themselves after it, by the whole arrays. The numbers of letters come from the moves of each node alone.
 //!
 //! *Proved:* Nodes that agree with the machine with whole arrays run each instruction as it does; where its run ends
