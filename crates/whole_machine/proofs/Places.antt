@@ -6,7 +6,7 @@ use Rattle.mappings.specs.declared.mapping.Mapping.{Mapping}
 use Rattle.expression_rules.specs.declared.dims.Dim.{Dim}
 use Rattle.machine_steps.specs.Instr.{Local}
 use Rattle.machine_steps.specs.Machine.{finish, instr_at, instr_of}
-use Rattle.node_code.specs.Instructions.{Instruction, Fetch, Store, Par, ParForall, ParNest, MakeCopies, MakeCopy, ParCopy, ParForallCopy, Verdict, Reduce, Print, FoldCopy, LastCopy, Remap}
+use Rattle.node_code.specs.Instructions.{Instruction, Fetch, Store, Par, ParForall, ParNest, MakeCopies, MakeCopy, ParCopy, ParForallCopy, Verdict, Reduce, Print, FoldCopy, LastCopy, ScanCopy, Remap}
 use Rattle.code_meaning.specs.Instructions.{meaning_of}
 use Rattle.code_meaning.specs.ProgramText.{Text, table_on, text, text_meaning, texts}
 use Rattle.node_code.specs.Texts.{instruction, instructions}
@@ -67,5 +67,6 @@ module _ (nodes : ℕ) (maps : List Mapping) (shapes : List (List Dim)) where
   local-is (Print items) is = cc
   local-is (FoldCopy copy o x) is = cc
   local-is (LastCopy copy set x) is = cc
+  local-is (ScanCopy copy o) is = cc
   local-is (Remap line new) is = cc
   local-is i is = refl

@@ -26,6 +26,7 @@ mod reduction_values;
 mod reductions;
 mod remaps;
 mod rows;
+mod scans;
 mod sections;
 mod steps;
 mod stores;

@@ -128,6 +128,7 @@ impl WholeMachine {
                 self.last_copy(*copy, *set, *slot);
                 Ok(())
             }
+            Instruction::ScanCopy { copy, join } => self.scan_copy(program.nodes, *copy, *join),
             Instruction::Remap { new, .. } => self.remap(&program.tables, new),
             _ => self.run_local(program, i),
         }
