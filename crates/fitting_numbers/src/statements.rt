@@ -78,6 +78,7 @@ fn transformation_fits(how: &Transformation)
     match how {
         Transformation::CircularShift(by) => term_fits(by),
         Transformation::Transposition => {}
+        Transformation::PrefixSum => {}
     }
 }
 
