@@ -10,7 +10,7 @@
 //! - `ownlimits`, `parcopy`, `forallcopy` and `makecopy`: `L R = F over (..)`, for the copy R
 //! - `reduce L s1 = sum F over (..)`, `foralllimits L over (..) of (..)`, `onetoone L over (..) of (..)`, `verdict`, `inside L R (..)`
 //! - `print` and items: `text WORD`, `number X`, `section R (..)`
-//! - `foldcopy s1 sum R`, also with `max`, `min`, `iand`, `ior` or `ieor`, and `lastcopy s1 R set R`
+//! - `foldcopy s1 sum R`, also with `max`, `min`, `iand`, `ior` or `ieor`, `lastcopy s1 R set R`, and `scancopy sum R`
 //! - `remap`: what the next REDISTRIBUTE of the text says
 //!
 //! Where an array expression, a copy or a mask stands, `beside R ( .. )` may follow at the end, as `anchors` says.
@@ -64,6 +64,10 @@ fn read_instruction(
             copy: words.row(),
         },
         "lastcopy" => read_last(words),
+        "scancopy" => Instruction::ScanCopy {
+            join: read_join(words).0,
+            copy: words.row(),
+        },
         "makecopies" => read_copies(alloc, words),
         word => read_with_line(alloc, word, words),
     }
