@@ -3,8 +3,8 @@
 ghost use Rattle.std.specs.Prelude.{◌≡◌, IfSome, Some, pos, ◌+ℤ◌, ◌*ℤ◌, ◌-◌, slice_index_or, true};
 ghost use Rattle.node_code.specs.Texts.{flat};
 ghost use Rattle.courses.specs.Courses.{Fixed, along, are_small, is_small};
-ghost use Rattle.courses.specs.StraightForms.{flat_course, sloped_course};
-ghost use Rattle.course_forms.specs.Views.{course_of, courses_of};
+ghost use Rattle.courses.specs.StraightForms.{flat_course, sloped_course, straight_course};
+ghost use Rattle.course_forms.specs.Views.{course_of, courses_of, straight_of};
 
 use crate::straight::{Straight, straight_form};
 use node_code::Flat;
@@ -25,6 +25,13 @@ pub(crate) fn small(z: &i128) -> Option<i64>
         return None;
     }
     Some(*z as i64)
+}
+
+/// The number in 128 bits.
+pub(crate) fn wide(x: &i64) -> i128
+    ensures { result ≡ x.now }
+{
+    *x as i128
 }
 
 /// `factor * x + offset`, where that fits 128 bits.
@@ -70,7 +77,7 @@ pub(crate) fn moving(axis: usize, extent: u64, first: &i128, step: &i128) -> Opt
 }
 
 /// The extent of an axis; 0 where there is none.
-fn extent_of(ns: &[u64], axis: usize) -> u64
+pub(crate) fn extent_of(ns: &[u64], axis: usize) -> u64
     ensures { result ≡ slice_index_or ns.now axis 0 }
 {
     if axis < ns.len() { ns[axis] } else { 0 }
@@ -102,20 +109,28 @@ fn index_course(cs: &[Course], k: usize) -> Course
     }
 }
 
-/// The course of a subscript of a FORALL or a nest, by those of its indices over a space of these extents. It takes no memory. None is no
-/// answer.
-pub fn flat_course(slots: &[i64], ns: &[u64], is: &[Course], f: &Flat) -> Option<Course>
-    ensures { IfSome result (λ c. flat_course slots.now ns.now (courses_of is.now) (flat f.now) ≡ Some (course_of c)) }
+/// The course of a number or a linear form, by those of the indices.
+pub(crate) fn straight_course(ns: &[u64], is: &[Course], x: &Straight) -> Option<Course>
+    ensures { IfSome result (λ c. straight_course ns.now (courses_of is.now) (straight_of x.now) ≡ Some (course_of c)) }
 {
-    match straight_form(slots, f)? {
-        Straight::Constant(v) => Some(Course::Fixed(v)),
+    match x {
+        Straight::Constant(v) => Some(Course::Fixed(*v)),
         Straight::Sloped {
             index,
             factor,
             offset,
         } => {
-            let by = index_course(is, index);
-            sloped_course(ns, &factor, &offset, &by)
+            let by = index_course(is, *index);
+            sloped_course(ns, factor, offset, &by)
         }
     }
+}
+
+/// The course of a subscript of a FORALL or a nest, by those of its indices over a space of these extents. It takes no memory. None is no
+/// answer.
+pub fn flat_course(slots: &[i64], ns: &[u64], is: &[Course], f: &Flat) -> Option<Course>
+    ensures { IfSome result (λ c. flat_course slots.now ns.now (courses_of is.now) (flat f.now) ≡ Some (course_of c)) }
+{
+    let x = straight_form(slots, f)?;
+    straight_course(ns, is, &x)
 }

@@ -6,7 +6,7 @@ ghost use Rattle.courses.specs.Courses.{is_section_small, section_courses};
 ghost use Rattle.courses.specs.References.{selected_courses};
 ghost use Rattle.course_forms.specs.Views.{course_of, courses_of};
 
-use crate::course::{Course, moving, small};
+use crate::course::{Course, moving, small, wide};
 use array_meaning::Selection;
 use hpf_base::OutOfMemory;
 use std::alloc::Global;
@@ -16,13 +16,6 @@ use std::alloc::Global;
 struct Step {
     course: Course,
     used: usize,
-}
-
-/// The number in 128 bits.
-fn wide(x: &i64) -> i128
-    ensures { result ≡ x.now }
-{
-    *x as i128
 }
 
 /// The course of the subscript at which so many axes are used. None is no answer.

@@ -19,7 +19,7 @@ use Rattle.courses.specs.Subscripts.{AxisBelow, AxesBelow}
 use Rattle.courses.proofs.References.{and-course, and-names}
 use Rattle.courses.proofs.StraightForms.{same}
 
-along-below : (n axis m : ℕ) (first step : ℤ) → axis < n → AxisBelow n (along axis m first step)
+pub along-below : (n axis m : ℕ) (first step : ℤ) → axis < n → AxisBelow n (along axis m first step)
 along-below n axis m first step below = by_test (nat_le m 1 || is_zero step)
   where
     by_test : (b : Bool) → AxisBelow n (if b then Fixed first else Moving axis first step)
@@ -131,7 +131,7 @@ module _ (shapes : List (List Dim)) (slots : List ℤ) (ns : List ℕ) (indices 
   whens-along [] = All-nil Lies
   whens-along (w ∷ whens) = All-cons Lies (named_copy ns w.copy) (when_names ns whens) (copy-along ns w.copy) (whens-along whens)
 
-  all-along : (whens : List When) (rows : List ℕ) (o : Option (List Named)) (rs : List Named) → ((ms : List Named) → o ≡ Some ms → All Lies ms)
+  pub all-along : (whens : List When) (rows : List ℕ) (o : Option (List Named)) (rs : List Named) → ((ms : List Named) → o ≡ Some ms → All Lies ms)
       → option_map (λ ms. (when_names ns whens ++ copy_names ns rows) ++ ms) o ≡ Some rs → All Lies rs
   all-along whens rows None rs each e = absurd (none-some rs e)
   all-along whens rows (Some ms) rs each e =

@@ -3,6 +3,9 @@ pub mod Sums
 pub mod StraightForms
 pub mod Copies
 pub mod References
+pub mod TurnedForms
+mod TurnedBounds
+pub mod TurnedNames
 pub mod Axes
 pub mod Subscripts
 pub mod Indices

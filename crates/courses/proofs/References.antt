@@ -126,7 +126,7 @@ module _ (shapes : List (List Dim)) (slots : List ℤ) (ns : List ℕ) (indices 
         ap (λ l. l ++ all_reads_at shapes x (elementals_at slots axes fs)) (form-is f h.0 h.2) ∙ ap (λ l. spots h.0 ++ l) (forms-are fs h.1 h.3)
         ∙ sym (map-append (named_spot ns t) h.0 h.1) ∙ ap spots h.4
 
-  all-are : (whens : List When) (rows : List ℕ) (o : Option (List Named)) (rs : List Named) (back : List (Option Spot)) → ((ms : List Named) → o ≡ Some ms → back ≡ spots ms)
+  pub all-are : (whens : List When) (rows : List ℕ) (o : Option (List Named)) (rs : List Named) (back : List (Option Spot)) → ((ms : List Named) → o ≡ Some ms → back ≡ spots ms)
       → option_map (λ ms. (when_names ns whens ++ copy_names ns rows) ++ ms) o ≡ Some rs → when_spots whens t ++ (row_spots rows t ++ back) ≡ spots rs
   all-are whens rows None rs back each e = absurd (none-some rs e)
   all-are whens rows (Some ms) rs back each e =

@@ -3,5 +3,7 @@ pub mod StraightForms
 pub mod Entries
 pub mod Subscripts
 pub mod References
+pub mod TurnedForms
+pub mod TurnedNames
 pub mod Owners
 pub mod AxisTables

@@ -1,7 +1,7 @@
 //! Laws on courses, and on what is named by them.
 
-ghost use Rattle.std.specs.Prelude.{◌≡◌, ◌==◌, ◌++◌, ℕ, ◌+◌, ◌<◌, ◌≤◌, false, true, ℤ, pos, ◌+ℤ◌, ◌*ℤ◌, List, length, map, All, Option, Some, slice_get};
-ghost use Rattle.std.specs.Option.{is_some};
+ghost use Rattle.std.specs.Prelude.{◌≡◌, ◌==◌, ◌++◌, [], ◌∷◌, ℕ, ◌+◌, ◌<◌, ◌≤◌, false, true, ℤ, pos, ◌+ℤ◌, ◌*ℤ◌, List, length, map, All, Option, Some, slice_get};
+ghost use Rattle.std.specs.Option.{is_some, option_or};
 ghost use Rattle.hpf_base.specs.ElementOrder.{product};
 ghost use Rattle.expression_rules.specs.declared.dims.Dim.{Dim};
 ghost use Rattle.storage.specs.Storage.{Spot};
@@ -11,7 +11,7 @@ ghost use Rattle.array_meaning.specs.State.{offset};
 ghost use Rattle.machine_steps.specs.CopyLayout.{copy_layout};
 ghost use Rattle.machine_steps.specs.Layout.{Layout, in_bounds, owned_by};
 ghost use Rattle.machine_steps.specs.Space.{space_count};
-ghost use Rattle.machine_steps.specs.Message.{computes_left, least_or_zero};
+ghost use Rattle.machine_steps.specs.Message.{computes_left, least_or_zero, names_spot};
 ghost use Rattle.node_code.specs.Forms.{ArrayForm, Sub};
 ghost use Rattle.code_meaning.specs.Forms.{elemental_at, selections_at};
 ghost use Rattle.code_meaning.specs.NestStatements.{row_spots, when_spots};
@@ -25,6 +25,7 @@ ghost use Rattle.courses.specs.Entries.{axes_in, entries_in};
 ghost use Rattle.courses.specs.Owners.{AreLed, IsLaidOut, bounds_test, least_test, owner_test};
 ghost use Rattle.courses.specs.References.{IsAlongAxes, Named, all_names, index_courses, named_copy, named_spot, place_at_places, subs_courses};
 ghost use Rattle.courses.specs.Subscripts.{AxesBelow};
+ghost use Rattle.courses.specs.TurnedNames.{all_turned_names, turned_names};
 
 /// The subscripts of a reference at a tuple are its courses there, in a statement over sections and in one over indices.
 pub fn subs_courses()
@@ -49,6 +50,24 @@ pub fn names_along_axes()
     ensures { (shapes : List (List Dim)) (slots : List ℤ) (ns : List ℕ) (indices : Option (List Selection)) (is : Option (List Course)) (whens : List When)
         (copies : List ℕ) (form : ArrayForm) (rs : List Named) → index_courses ns indices ≡ Some is
         → all_names shapes slots ns is whens copies form ≡ Some rs → All (IsAlongAxes (length ns)) rs }
+{}
+
+/// What a reference whose first subscript goes round reads at a tuple is what either of two references by courses names there, so that where all
+/// else has a name, the elements that are read are those that all of them name. These have a course for each dimension, along the axes of the space.
+pub fn turned_references()
+    ensures elements { (shapes : List (List Dim)) (slots : List ℤ) (ns : List ℕ) (indices : Option (List Selection)) (is : List Course) (form : ArrayForm)
+        (r q : Named) (t : ℕ) → t < product ns → index_courses ns indices ≡ Some (Some is) → turned_names shapes slots ns is form ≡ Some (r, q)
+        → reads_at shapes (entries_in indices ns t) (elemental_at slots (axes_in indices (entries_in indices ns t)) form)
+        ≡ option_or (named_spot ns t r) (named_spot ns t q) ∷ [] }
+    ensures spots { (shapes : List (List Dim)) (slots : List ℤ) (ns : List ℕ) (whens : List When) (copies : List ℕ) (form : ArrayForm) (rs : List Named)
+        (indices : Option (List Selection)) (is : Option (List Course)) → index_courses ns indices ≡ Some is
+        → all_turned_names shapes slots ns is whens copies form ≡ Some rs → (t : ℕ) (spot : Spot) → t < product ns
+        → names_spot (when_spots whens t
+        ++ (row_spots copies t ++ reads_at shapes (entries_in indices ns t) (elemental_at slots (axes_in indices (entries_in indices ns t)) form))) spot
+        ≡ names_spot (map (named_spot ns t) rs) spot }
+    ensures axes { (shapes : List (List Dim)) (slots : List ℤ) (ns : List ℕ) (whens : List When) (copies : List ℕ) (form : ArrayForm) (rs : List Named)
+        (indices : Option (List Selection)) (is : Option (List Course)) → index_courses ns indices ≡ Some is
+        → all_turned_names shapes slots ns is whens copies form ≡ Some rs → All (IsAlongAxes (length ns)) rs }
 {}
 
 /// The element of a copy with the tuple's number is what its own courses name at the tuple.

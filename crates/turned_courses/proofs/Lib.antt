@@ -1,3 +1,1 @@
 mod Forms
-mod Bounds
-mod Names

@@ -1,2 +1,1 @@
-pub mod TurnedForms
-pub mod TurnedNames
+pub mod FirstTurned

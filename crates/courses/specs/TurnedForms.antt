@@ -1,11 +1,10 @@
 -- Of a promise.
 -- Subscripts that go round a dimension: so far above its lower bound, and n less where that isn't below n, as those of a circular shift.
-use Rattle.std.specs.Prelude.{◌==◌, Bool, false, ◌&&◌, List, ◌∷◌, ℤ, Option, Some, None, if◌then◌else◌}
+use Rattle.std.specs.Prelude.{◌==◌, Bool, false, ◌&&◌, List, ℤ, Option, Some, None, if◌then◌else◌}
 use Rattle.std.specs.Ordering.{int_eq}
 use Rattle.op_tables.specs.declared.op.Op.{Op}
 use Rattle.op_tables.specs.declared.op.Op.TheVariants as op
 use Rattle.node_code.specs.Flat.{Flat, Int, Operated, NoFlat, AndFlat}
-use Rattle.node_code.specs.Forms.{Sub, SubAt}
 use Rattle.courses.specs.StraightForms.{Straight, Constant, Sloped, straight}
 
 -- both forms are the same
@@ -43,8 +42,3 @@ turned_less slots lower t g = None
 abbrev pub turned_in : List ℤ → Flat → Option Turned
 turned_in slots (Operated op.Add (AndFlat (Operated op.Sub (AndFlat t (AndFlat g NoFlat))) (AndFlat (Int lower) NoFlat))) = turned_less slots lower t g
 turned_in slots f = None
-
--- of the first of these subscripts
-abbrev pub first_turned : List ℤ → List Sub → Option Turned
-first_turned slots (SubAt f ∷ subs) = turned_in slots f
-first_turned slots subs = None

@@ -7,9 +7,9 @@ use Rattle.expression_rules.specs.declared.dims.Dim.{Dim}
 use Rattle.expression_rules.specs.Dims.{extent}
 use Rattle.array_meaning.specs.State.{element_place, if_below, offset}
 use Rattle.courses.proofs.Sections.{both}
-use Rattle.turned_courses.specs.TurnedForms.{Turned}
-use Rattle.turned_courses.specs.TurnedNames.{is_of_first}
-use Rattle.turned_courses.proofs.Forms.{moved, same-number}
+use Rattle.courses.specs.TurnedForms.{Turned}
+use Rattle.courses.specs.TurnedNames.{is_of_first}
+use Rattle.courses.proofs.TurnedForms.{moved, same-number}
 
 -- a number that isn't below n is past n places, and one that is lies, less n, before them
 past : (n : ℕ) (v : ℤ) → int_le (pos n) v ≡ true → if_below v n ≡ None
