@@ -57,7 +57,7 @@ module _ (nodes : ℕ) (layouts : List Layout) (ns : List ℕ) (rs : List Named)
       (λ t low high.
       let below : t < product ns = omega (arith, high) in
       ap (λ b. b && is_named_of ns rs t s) (sym (of.computes to t below))
-      ∙ ap (λ b. part.computes to t && b) (sym (names-any ns rs t s) ∙ ap (λ l. names_spot l s) (sym (of.reads t below))))
+      ∙ ap (λ b. part.computes to t && b) (sym (names-any ns rs t s) ∙ sym (of.reads t s below)))
       ∙ sym (any-below (λ t. part.computes to t && names_spot (part.reads t) s) (product ns))
       ∙ sym (ap (any_below (λ t. part.computes to t && names_spot (part.reads t) s)) of.tuples)
 

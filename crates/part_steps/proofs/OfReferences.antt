@@ -5,7 +5,7 @@ use Rattle.machine_steps.specs.Layout.{Layout, in_bounds}
 use Rattle.machine_steps.specs.Message.{computes_left, first_read, least_or_zero}
 use Rattle.courses.specs.References.{Named, named_spot}
 use Rattle.visited_tuples.specs.Parts.{IsPartOf}
-use Rattle.tuple_values.specs.NamedElements.{AreReferences, spot_if}
+use Rattle.tuple_values.specs.NamedElements.{AreInOrder, AreReferences, spot_if}
 use Rattle.tuple_values.specs.Statements.{Statement}
 use Rattle.part_steps.specs.Parts.{part_of}
 use Rattle.part_steps.specs.declared.who.Who.TheVariants.{Left, First, Root}
@@ -23,12 +23,12 @@ module _ (nodes : ℕ) (layouts : List Layout) (w : Statement) (ns : List ℕ) (
     computes = λ node t small. ap (λ o. computes_left layouts node (in_bounds layouts o)) (are.left t small ∙ ap (spot_if ns t) is);
   }
 
-  pub first-part : IsPartOf ns rs (λ node t. least_or_zero nodes layouts (in_bounds layouts (first_read (map (named_spot ns t) rs))) == node)
+  pub first-part : AreInOrder w ns rs → IsPartOf ns rs (λ node t. least_or_zero nodes layouts (in_bounds layouts (first_read (map (named_spot ns t) rs))) == node)
       (part_of (record { who = First; nodes = nodes; layouts = layouts; statement = w }))
-  first-part = record {
+  first-part order = record {
     tuples = sym are.count;
     reads = are.reads;
-    computes = λ node t small. ap (λ reads. least_or_zero nodes layouts (in_bounds layouts (first_read reads)) == node) (are.reads t small);
+    computes = λ node t small. ap (λ reads. least_or_zero nodes layouts (in_bounds layouts (first_read reads)) == node) (order t small);
   }
 
   pub root-part : IsPartOf ns rs (λ node t. node == 0) (part_of (record { who = Root; nodes = nodes; layouts = layouts; statement = w }))

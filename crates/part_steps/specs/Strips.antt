@@ -9,7 +9,7 @@ use Rattle.machine_steps.specs.Instr.{Value}
 use Rattle.machine_steps.specs.Layout.{Layout}
 use Rattle.machine_steps.specs.Node.{join_options, local_write}
 use Rattle.course_forms.specs.Views.{named_of, names_of}
-use Rattle.tuple_values.specs.NamedElements.{AreReferences}
+use Rattle.tuple_values.specs.NamedElements.{AreInOrder, AreReferences}
 use Rattle.tuple_values.specs.Statements.{tuple_left}
 use Rattle.tuple_values.specs.Strips.{line_spot, strip_tuple}
 use Rattle.tuple_values.specs.declared.strips.ElementLine.{ElementLine}
@@ -23,9 +23,11 @@ use Rattle.part_steps.specs.declared.strips.StripOutcome.{StripOutcome}
 abbrev pub strip_tuples : Strip → List ℕ
 strip_tuples s = map (strip_tuple s) (range_with_len 0 s.count)
 
--- what the statement of a part names, where that is known
+-- what the statement of a part names, one reference for each read, where that is known
 abbrev pub AreReferencesOf : Gathered → Option References → Type 0
-AreReferencesOf g p = IfSome p (λ r. AreReferences (statement g.part.now.statement.now) r.extents.items (option_map named_of r.left) (names_of r.reads.items))
+AreReferencesOf g p =
+    let w = statement g.part.now.statement.now in
+    IfSome p (λ r. AreReferences w r.extents.items (option_map named_of r.left) (names_of r.reads.items) × AreInOrder w r.extents.items (names_of r.reads.items))
 
 -- the strip's tuples are those of a list from an index on
 pub record IsStripOf (ts : List ℕ) (from : ℕ) (s : Strip) : Type 0 where

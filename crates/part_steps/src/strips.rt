@@ -25,14 +25,20 @@ pub(crate) struct StripOutcome {
     pub(crate) values: Vec<i64>,
 }
 
-/// What the statement of a part names, where strips may be worth it.
+/// What the statement of a part names, one reference for each read, where strips may be worth it.
 pub(crate) fn references_of(gathered: &Gathered<'_>) -> Result<Option<References>, OutOfMemory>
     ensures { IfOk result (AreReferencesOf gathered.now) }
 {
     if gathered.computed().len() < FEWEST {
         return Ok(None);
     }
-    gathered.part.statement.references()
+    let Some(references) = gathered.part.statement.references()? else {
+        return Ok(None);
+    };
+    if !references.in_order {
+        return Ok(None);
+    }
+    Ok(Some(references))
 }
 
 /// What a strip comes to, by what the statement names. None is no answer.

@@ -1,11 +1,11 @@
 //! Which tuples of a part a node has to ask.
 
-ghost use Rattle.std.specs.Prelude.{◌≡◌, ◌<◌, ◌≤◌, ◌^◌, All, IfOk, IfSome, Some, length, option_map};
+ghost use Rattle.std.specs.Prelude.{◌≡◌, ◌<◌, ◌≤◌, ◌^◌, All, IfOk, IfSome, Some, length, option_map, true};
 ghost use Rattle.hpf_base.specs.ElementOrder.{product};
 ghost use Rattle.message_elements.specs.Candidates.{AreCandidates};
 ghost use Rattle.courses.specs.References.{IsAlongAxes};
 ghost use Rattle.course_forms.specs.Views.{named_of, names_of};
-ghost use Rattle.tuple_values.specs.NamedElements.{AreReferences};
+ghost use Rattle.tuple_values.specs.NamedElements.{AreInOrder, AreReferences};
 ghost use Rattle.tuple_values.specs.Views.{statement as statement_of};
 ghost use Rattle.part_steps.specs.Parts.{part_of};
 ghost use Rattle.part_steps.specs.Views.{part_view};
@@ -45,6 +45,7 @@ fn visits_by(
 ) -> Result<Option<Candidates>, OutOfMemory>
     requires id { id < part.now.owners.now.nodes }
     requires references { AreReferences (statement_of part.now.statement.now) references.now.extents.items (option_map named_of references.now.left) (names_of references.now.reads.items) }
+    requires order { references.now.in_order ≡ true → AreInOrder (statement_of part.now.statement.now) references.now.extents.items (names_of references.now.reads.items) }
     requires few { product references.now.extents.items ≤ 2 ^ 32 }
     ensures { IfOk result (λ found. IfSome found (AreCandidates part.now.owners.now.nodes part.now.owners.now.layouts (part_of (part_view part.now)) id)) }
 {
@@ -59,6 +60,9 @@ fn visits_by(
             Ok(found)
         }
         Who::First => {
+            if !references.in_order {
+                return Ok(None);
+            }
             let found = read_visits(alloc, part.owners, extents, reads, id)?;
             Ok(found)
         }

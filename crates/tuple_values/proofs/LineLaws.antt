@@ -9,7 +9,7 @@ use Rattle.course_forms.specs.declared.reference.Reference.{Reference}
 use Rattle.course_lines.proofs.NamedLines.{named_line}
 use Rattle.tuple_values.specs.declared.strips.ElementLine.{ElementLine}
 use Rattle.tuple_values.specs.declared.strips.Strip.{Strip}
-use Rattle.tuple_values.specs.NamedElements.{AreReferences, spot_if}
+use Rattle.tuple_values.specs.NamedElements.{AreInOrder, AreReferences, spot_if}
 use Rattle.tuple_values.specs.Statements.{Statement, tuple_count, tuple_left, tuple_reads}
 use Rattle.tuple_values.specs.StripEnds.{AreLines, IsLine}
 use Rattle.tuple_values.specs.Strips.{AreReadLines, IsInRow, IsLeftLine, IsWithin, line_spot, spots_at, strip_tuple}
@@ -45,18 +45,19 @@ module _ (n : ℕ) (ns : List ℕ) (s : Strip) (row : IsInRow (n ∷ ns) s) wher
       ∷ all-lines rs ls (rest-is _ _ _ _ first) (rest-is _ _ _ _ second) (rest-is _ _ _ _ last) k lt i)
 
 module _ (w : Statement) (s : Strip) (within : IsWithin w s) where
-  pub read_lines : (ns : List ℕ) (l : Option Named) (rs : List Named) (ls : List ElementLine) → AreReferences w ns l rs → IsInRow ns s → AreLines (tuple_reads w) s ls → AreReadLines w s ls
-  read_lines [] l rs ls refs row lines k lt = absurd row
-  read_lines (n ∷ ns) l rs ls refs row lines k lt =
+  pub read_lines : (ns : List ℕ) (l : Option Named) (rs : List Named) (ls : List ElementLine) → AreReferences w ns l rs → AreInOrder w ns rs → IsInRow ns s
+      → AreLines (tuple_reads w) s ls → AreReadLines w s ls
+  read_lines [] l rs ls refs order row lines k lt = absurd row
+  read_lines (n ∷ ns) l rs ls refs order row lines k lt =
       let below : (j : ℕ) → j < s.count → strip_tuple s j < product (n ∷ ns) = λ j lt. subst (λ m. strip_tuple s j < m) (sym refs.count) (within j lt) in
       let two : 1 < s.count = row.0 in
       let some : 0 < s.count = omega (arith, two) in
       let end : s.count - 1 < s.count = omega (arith, two) in
-      refs.reads (strip_tuple s k) (below k lt)
+      order (strip_tuple s k) (below k lt)
       ∙ all-lines n ns s row rs ls
-      (sym (refs.reads (strip_tuple s 0) (below 0 some)) ∙ lines.first)
-      (sym (refs.reads (strip_tuple s 1) (below 1 two)) ∙ lines.second)
-      (sym (refs.reads (strip_tuple s (s.count - 1)) (below (s.count - 1) end)) ∙ lines.last) k lt
+      (sym (order (strip_tuple s 0) (below 0 some)) ∙ lines.first)
+      (sym (order (strip_tuple s 1) (below 1 two)) ∙ lines.second)
+      (sym (order (strip_tuple s (s.count - 1)) (below (s.count - 1) end)) ∙ lines.last) k lt
 
   pub left_line : (ns : List ℕ) (r : Option Reference) (q : Reference) (rs : List Named) (l : ElementLine) → r ≡ Some q → AreReferences w ns (option_map named_of r) rs → IsInRow ns s
       → IsLine (tuple_left w) s l → IsLeftLine w s (Some l)

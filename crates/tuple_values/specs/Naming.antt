@@ -1,10 +1,12 @@
 -- Of private clauses.
 -- How references are put together; private contracts alone cite this.
-use Rattle.std.specs.Prelude.{ℕ, List, ◌++◌, ℤ, Option, Some, None, option_map}
+use Rattle.std.specs.Prelude.{ℕ, Bool, true, false, List, [], ◌∷◌, ◌++◌, ℤ, Option, Some, None, option_map}
 use Rattle.expression_rules.specs.declared.dims.Dim.{Dim}
 use Rattle.node_code.specs.Forms.{ArrayForm, Forms, Sub}
+use Rattle.node_code.specs.Parallel.{When}
 use Rattle.courses.specs.Courses.{Course}
-use Rattle.courses.specs.References.{Named, form_names, forms_names, named_copy, named_element, selected_courses, subs_courses}
+use Rattle.courses.specs.References.{Named, all_names, form_names, forms_names, named_copy, named_element, selected_courses, subs_courses}
+use Rattle.courses.specs.TurnedNames.{all_turned_names, turned_names}
 use Rattle.course_forms.specs.Views.{courses_of, named_of}
 use Rattle.tuple_values.specs.declared.naming.Indices.{Indices}
 use Rattle.tuple_values.specs.declared.naming.Naming.{Naming}
@@ -20,6 +22,11 @@ left_of l = option_map named_of l.reference
 -- others before these, where these are known
 abbrev pub before : List Named → Option (List Named) → Option (List Named)
 before rs o = option_map (λ qs. rs ++ qs) o
+
+-- all that is read, in order, or where what is evaluated goes round a dimension
+abbrev pub names_by : Bool → List (List Dim) → List ℤ → List ℕ → Option (List Course) → List When → List ℕ → ArrayForm → Option (List Named)
+names_by true = all_names
+names_by false = all_turned_names
 
 -- what is assigned, where something is; None where it has no course
 abbrev pub left_name : List (List Dim) → List ℤ → List ℕ → Option (List Course) → Target → Option (Option Named)
@@ -43,3 +50,14 @@ all_names_here n fs = forms_names n.shapes.now n.slots.now n.extents.now (indice
 
 abbrev pub left_here : Naming → Target → Option (Option Named)
 left_here n target = left_name n.shapes.now n.slots.now n.extents.now (indices_of n.indices.now) target
+
+-- both references of what is evaluated, where that goes round a dimension
+abbrev pub both_listed : Option (Named × Named) → Option (List Named)
+both_listed o = option_map (λ p. p.0 ∷ p.1 ∷ []) o
+
+abbrev pub turned_by_indices : Naming → Option (List Course) → ArrayForm → Option (Named × Named)
+turned_by_indices n None f = None
+turned_by_indices n (Some is) f = turned_names n.shapes.now n.slots.now n.extents.now is f
+
+abbrev pub both_here : Naming → ArrayForm → Option (List Named)
+both_here n f = both_listed (turned_by_indices n (indices_of n.indices.now) f)

@@ -1,10 +1,11 @@
 //! What is named in parallel statements, by courses. None is no answer.
 
 ghost use Rattle.std.specs.Prelude.{◌≡◌, ◌++◌, ◌∷◌, [], map, option_map, IfOk, IfSome, OnOk, Some, true};
+ghost use Rattle.node_code.specs.Forms.{SectionForm};
 ghost use Rattle.node_code.specs.Texts.{form, forms_of, subs, when};
 ghost use Rattle.courses.specs.References.{copy_names, index_courses, named_element, selected_courses, when_names};
 ghost use Rattle.course_forms.specs.Views.{courses_of, named_of, names_of};
-ghost use Rattle.tuple_values.specs.Naming.{all_names_here, before, courses_here, element_here, indices_of, left_here, left_of, names_here};
+ghost use Rattle.tuple_values.specs.Naming.{all_names_here, before, both_here, courses_here, element_here, indices_of, left_here, left_of, names_here};
 ghost use Rattle.tuple_values.specs.Targets.{form_of, target as target_of};
 
 use crate::naming::{Indices, Left, Naming};
@@ -12,7 +13,7 @@ use crate::right::Right;
 use crate::target::Target;
 use array_meaning::Selection;
 use course_forms::{
-    Course, Reference, indexed_courses, named_copy, named_element, section_courses,
+    Course, Reference, both_references, indexed_courses, named_copy, named_element, section_courses,
 };
 use hpf_base::OutOfMemory;
 use node_code::{ArrayForm, Sub, When};
@@ -196,6 +197,58 @@ fn element_reference(
         None => Ok(false),
         Some(r) => {
             rs.push(r)?;
+            Ok(true)
+        }
+    }
+}
+
+/// Puts both references of what is evaluated after the others, and whether it is the element of an array whose first subscript goes round its
+/// first dimension.
+pub(crate) fn turned_references(
+    n: &Naming<'_>,
+    right: &Right<'_>,
+    rs: &mut Vec<Reference>,
+) -> Result<bool, OutOfMemory>
+    ensures { IfOk result (λ known. known ≡ true → before (names_of rs.old.items) (both_here n.now (form_of right.now)) ≡ Some (names_of rs.new.items)) }
+{
+    match right {
+        Right::Form(f) => turned_form_references(n, f, rs),
+        Right::Section(a, ds) => both_references_of(n, *a, ds, rs),
+    }
+}
+
+/// The same of an array expression.
+fn turned_form_references(
+    n: &Naming<'_>,
+    f: &ArrayForm,
+    rs: &mut Vec<Reference>,
+) -> Result<bool, OutOfMemory>
+    ensures { IfOk result (λ known. known ≡ true → before (names_of rs.old.items) (both_here n.now (form f.now)) ≡ Some (names_of rs.new.items)) }
+{
+    match f {
+        ArrayForm::Section(a, ds) => both_references_of(n, *a, ds, rs),
+        _ => Ok(false),
+    }
+}
+
+/// The same of a section.
+fn both_references_of(
+    n: &Naming<'_>,
+    array: usize,
+    section: &[Sub],
+    rs: &mut Vec<Reference>,
+) -> Result<bool, OutOfMemory>
+    ensures { IfOk result (λ known. known ≡ true
+        → before (names_of rs.old.items) (both_here n.now (SectionForm array (subs section.now))) ≡ Some (names_of rs.new.items)) }
+{
+    let Some(is) = &n.indices.courses else {
+        return Ok(false);
+    };
+    match both_references(n.alloc, n.shapes, n.slots, n.extents, is, array, section)? {
+        None => Ok(false),
+        Some(both) => {
+            rs.push(both.low)?;
+            rs.push(both.high)?;
             Ok(true)
         }
     }

@@ -2,7 +2,7 @@
 
 ghost use Rattle.std.specs.Prelude.{◌≡◌, ◌<◌, option_map, IfOk, IfSome, Some};
 ghost use Rattle.course_forms.specs.Views.{named_of, names_of};
-ghost use Rattle.tuple_values.specs.NamedElements.{AreReferences};
+ghost use Rattle.tuple_values.specs.NamedElements.{AreInOrder, AreReferences};
 ghost use Rattle.tuple_values.specs.Spots.{read_of, reads_of};
 ghost use Rattle.tuple_values.specs.Statements.{tuple_count, tuple_left, tuple_reads};
 ghost use Rattle.tuple_values.specs.StripEnds.{AreEnds, AreLines, IsLine};
@@ -40,6 +40,7 @@ impl<'a> ParallelStatement<'a> {
         s: Strip,
     ) -> Result<Option<StripLines>, OutOfMemory>
         requires references { AreReferences (statement self.now) references.now.extents.items (option_map named_of references.now.left) (names_of references.now.reads.items) }
+        requires order { AreInOrder (statement self.now) references.now.extents.items (names_of references.now.reads.items) }
         requires within { IsWithin (statement self.now) s }
         ensures row { IfOk result (λ p. IfSome p (λ _. IsInRow (statement self.now).extents s)) }
         ensures reads { IfOk result (λ p. IfSome p (λ lines. AreReadLines (statement self.now) s lines.reads.items)) }

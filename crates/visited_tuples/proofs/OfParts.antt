@@ -32,14 +32,14 @@ visits who nodes layouts ns rs id lists beside v part own is taking sending of =
     every = λ t other spot small within takes.
         let t-small : t < product ns = subst (λ n. t < n) of.tuples small in
         let e = sent_facts t other id spot takes in
-        taking.every t spot t-small (sym (of.computes id t t-small) ∙ e.0) (ap (λ reads. names_spot reads spot) (sym (of.reads t t-small)) ∙ e.1) e.3;
+        taking.every t spot t-small (sym (of.computes id t t-small) ∙ e.0) (sym (of.reads t spot t-small) ∙ e.1) e.3;
   };
   sending = record {
     below = subst (λ n. All (λ t. t < n) v.sending.items) (sym of.tuples) sending.below;
     every = λ t other spot small within sends.
         let t-small : t < product ns = subst (λ n. t < n) of.tuples small in
         let e = sent_facts t id other spot sends in
-        sending.every t other spot t-small within (sym (of.computes other t t-small) ∙ e.0) (ap (λ reads. names_spot reads spot) (sym (of.reads t t-small)) ∙ e.1) e.2;
+        sending.every t other spot t-small within (sym (of.computes other t t-small) ∙ e.0) (sym (of.reads t spot t-small) ∙ e.1) e.2;
   };
 }
   where

@@ -2,7 +2,7 @@ use Rattle.std.proofs.Common.{ap, subst, sym}
 use Rattle.std.specs.Option.{IfSome, option_map}
 use Rattle.message_elements.specs.Candidates.{AreCandidates}
 use Rattle.course_forms.specs.Views.{named_of, names_of}
-use Rattle.tuple_values.specs.NamedElements.{AreReferences}
+use Rattle.tuple_values.specs.NamedElements.{AreInOrder, AreReferences}
 use Rattle.tuple_values.specs.Views.{statement}
 use Rattle.part_steps.specs.Parts.{part_of}
 use Rattle.part_steps.specs.declared.who.Who.TheVariants.{Left, First, Root}
@@ -35,10 +35,14 @@ returns-in_ok-found-in-First c =
     let are : AreReferences w ns l rs =
     subst (λ ns. AreReferences w ns l rs) (sym c.as_slice-extents.ensures.value)
     (subst (λ rs. AreReferences w c.args.references.now.extents.items l (names_of rs)) (sym c.as_slice-reads.ensures.value) c.requires.references) in
+    let order : AreInOrder w ns rs =
+    subst (λ ns. AreInOrder w ns rs) (sym c.as_slice-extents.ensures.value)
+    (subst (λ rs. AreInOrder w c.args.references.now.extents.items (names_of rs)) (sym c.as_slice-reads.ensures.value)
+    (c.requires.order c.if-in_order.false)) in
     subst (λ who. IfSome c.in_ok-found-in-First.found (AreCandidates owners.nodes owners.layouts (part_of (record { who = who; nodes = owners.nodes; layouts = owners.layouts; statement = w })) c.args.id))
     (sym c.in-First.is)
     (if-some-map c.in_ok-found-in-First.found
-    (λ v visits. visits (part_of (record { who = First; nodes = owners.nodes; layouts = owners.layouts; statement = w })) (first-part owners.nodes owners.layouts w ns l rs are))
+    (λ v visits. visits (part_of (record { who = First; nodes = owners.nodes; layouts = owners.layouts; statement = w })) (first-part owners.nodes owners.layouts w ns l rs are order))
     c.in_ok-found-in-First.ensures)
 
 pub returns-in_ok-found-in-Root : goal.returns-in_ok-found-in-Root
