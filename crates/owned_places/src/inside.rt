@@ -1,13 +1,13 @@
 //! Whether a reference is in bounds at all tuples.
 
-ghost use Rattle.std.specs.Prelude.{◌≡◌, ℕ, ◌<◌, ◌≤◌, ◌^◌, All, length, slice_index_or, true};
+ghost use Rattle.std.specs.Prelude.{◌≡◌, ℕ, ◌<◌, ◌≤◌, ◌^◌, [], ◌∷◌, All, length, slice_index_or, true};
 ghost use Rattle.hpf_base.specs.ElementOrder.{product};
 ghost use Rattle.axis_products.specs.Products.{places_at};
 ghost use Rattle.axis_products.specs.Tests.{holds};
 ghost use Rattle.courses.specs.AxisTables.{subscript_on};
 ghost use Rattle.courses.specs.Owners.{bounds_test};
 ghost use Rattle.courses.specs.References.{IsAlongAxes};
-ghost use Rattle.courses.specs.Subscripts.{in_dim};
+ghost use Rattle.courses.specs.Subscripts.{axis_pass, in_dim};
 ghost use Rattle.course_forms.specs.Views.{course_of, courses_of, named_of};
 ghost use Rattle.owned_places.specs.Dims.{AreInsideFrom, IsInsideDim};
 
@@ -27,6 +27,47 @@ pub fn is_inside(reference: &Reference, extents: &[u64]) -> bool
         reference.courses.as_slice(),
         extents,
     )
+}
+
+/// Whether the subscripts that move along an axis are in bounds at a place of it.
+pub fn is_inside_at(reference: &Reference, axis: usize, place: u32) -> bool
+    requires rank { length (named_of reference.now).courses ≡ length (named_of reference.now).dims }
+    ensures { result ≡ (bounds_test (named_of reference.now).dims (named_of reference.now).courses).at axis place }
+{
+    are_inside_at(
+        reference.dims.as_slice(),
+        reference.courses.as_slice(),
+        axis,
+        place,
+    )
+}
+
+/// The same of courses.
+fn are_inside_at(dims: &[Dim], courses: &[Course], axis: usize, place: u32) -> bool
+    requires rank { length courses.now ≡ length dims.now }
+    ensures { result ≡ axis_pass (in_dim dims.now) 0 (courses_of courses.now) axis place }
+{
+    for k in 0..courses.len() {
+        if !is_moving_inside_at(dims, &courses[k], k, axis, place) {
+            return false;
+        }
+    }
+    true
+}
+
+/// The same of one dimension.
+fn is_moving_inside_at(dims: &[Dim], course: &Course, k: usize, axis: usize, place: u32) -> bool
+    requires dim { k < length dims.now }
+    ensures { result ≡ axis_pass (in_dim dims.now) k (course_of course.now ∷ []) axis place }
+{
+    match course {
+        Course::Moving {
+            axis: along,
+            first,
+            step,
+        } if *along == axis => in_dim(dims, k, subscript_on(*first, *step, place)),
+        _ => true,
+    }
 }
 
 /// The same of courses.

@@ -11,7 +11,8 @@
 //!
 //! *Proved:* The places of each axis at which what a reference names is in bounds and a node's, ascending; None only
 //! where no tuple names such an element: `owned_places`. Where it is said that a reference is in bounds at all tuples,
-//! or that a row lies as it takes it, that is so: `is_inside`, `is_laid_out`.
+//! or that a row lies as it takes it, that is so: `is_inside`, `is_laid_out`; so is whether it is in bounds at a place
+//! of an axis: `is_inside_at`.
 #![tactic(auto)]
 
 mod candidates;
@@ -27,6 +28,6 @@ mod tables;
 
 pub use candidates::Candidates;
 pub use holding::Holding;
-pub use inside::is_inside;
+pub use inside::{is_inside, is_inside_at};
 pub use laid::is_laid_out;
 pub use owned::owned_places;

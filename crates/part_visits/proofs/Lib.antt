@@ -2,4 +2,5 @@ mod AxisLists
 mod Counts
 mod Items
 mod MoreReads
+mod OwningLaws
 mod Sharers

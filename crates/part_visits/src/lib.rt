@@ -5,7 +5,7 @@
 //! tuple has to be asked.
 //!
 //! What holds in between: what a node owns of a reference is a product of lists of places, one an axis. It computes such a product, takes something only at those of its
-//! tuples that haven't the places at which it owns all that is read, and sends something only at tuples with the places at which it owns what is read and that
+//! tuples that haven't the places at which it owns all that is read, if it is in bounds, and sends something only at tuples with the places at which it owns what is read and that
 //! it doesn't compute itself. So the time is that of the places and of the tuples at the border of what the node computes, not that of all tuples.
 //! Reads that lie as what is assigned, at the same subscripts, concern no tuple, and are left out before.
 //!
@@ -19,8 +19,10 @@
 #![tactic(auto)]
 
 mod alike;
+mod kept;
 mod lists;
 mod own;
+mod owning;
 mod sending;
 mod sharing;
 mod taking;

@@ -7,15 +7,17 @@ ghost use Rattle.courses.specs.References.{IsAlongAxes};
 ghost use Rattle.course_forms.specs.Views.{named_of, names_of};
 ghost use Rattle.axis_products.specs.Tests.{holds};
 ghost use Rattle.visited_tuples.specs.Own.{IsOwn};
-ghost use Rattle.visited_tuples.specs.Owned.{Lies, owns_named};
+ghost use Rattle.visited_tuples.specs.Owned.{Lies, owns_if_named};
 ghost use Rattle.visited_tuples.specs.Visited.{IsTaking};
 
 use crate::lists::{common_lists, copies};
 use crate::own::Own;
+use crate::owning::Owning;
 use crate::visitor::{Lists, Visitor};
 use axis_walks::{passing_below, tuples_beyond};
 use course_forms::Reference;
 use hpf_base::OutOfMemory;
+use owned_places::{Holding, is_inside};
 use std::alloc::Global;
 
 impl<'a> Visitor<'a> {
@@ -53,7 +55,7 @@ impl<'a> Visitor<'a> {
         }
     }
 
-    /// Of lists of places those at which the node owns all that is read; None where of a read it owns nothing.
+    /// Of lists of places those at which the node owns all that is read and in bounds; None where of a read it owns nothing.
     fn interior(
         &self,
         alloc: Global,
@@ -64,15 +66,84 @@ impl<'a> Visitor<'a> {
         requires lists { (a : ℕ → ℕ → Bool) × (map (λ v. v.items) lists.now ≡ passing a 0 self.now.extents.now) }
         ensures { IfOk result (λ inner. IfSome inner (λ inner. (b : ℕ → ℕ → Bool) × (map (λ v. v.items) inner.items ≡ passing b 0 self.now.extents.now)
             × ((places : List ℕ) → each b 0 places ≡ true
-            → list_all (λ r. holds (owns_named self.now.owners.now.layouts self.now.id r) places) (names_of reads.now) ≡ true))) }
+            → list_all (λ r. holds (owns_if_named self.now.owners.now.layouts self.now.id r) places) (names_of reads.now) ≡ true))) }
     {
         let mut inner = copies(alloc, lists)?;
         for read in reads {
-            let Some(owned) = self.places(alloc, read)? else {
+            let Some(kept) = self.owned_if_named(alloc, read, &inner)? else {
                 return Ok(None);
             };
-            inner = common_lists(alloc, &inner, &owned)?;
+            inner = kept;
         }
         Ok(Some(inner))
+    }
+
+    /// Of lists of places those at which the node owns what a reference names, if that is in bounds; None where it owns nothing of it.
+    fn owned_if_named(
+        &self,
+        alloc: Global,
+        reference: &Reference,
+        lists: &[Vec<u32>],
+    ) -> Result<Option<Lists>, OutOfMemory>
+        requires lies { Lies self.now.extents.now self.now.owners.now.layouts (named_of reference.now) }
+        requires lists { (a : ℕ → ℕ → Bool) × (map (λ v. v.items) lists.now ≡ passing a 0 self.now.extents.now) }
+        ensures { (a : ℕ → ℕ → Bool) → map (λ v. v.items) lists.now ≡ passing a 0 self.now.extents.now
+            → IfOk result (λ r. IfSome r (λ kept. (b : ℕ → ℕ → Bool) × (map (λ v. v.items) kept.items ≡ passing b 0 self.now.extents.now)
+            × ((places : List ℕ) → each b 0 places ≡ true → (each a 0 places ≡ true)
+            × (holds (owns_if_named self.now.owners.now.layouts self.now.id (named_of reference.now)) places ≡ true)))) }
+    {
+        if is_inside(reference, self.extents) {
+            self.common_owned(alloc, reference, lists)
+        } else {
+            self.kept_owned(alloc, reference, lists)
+        }
+    }
+
+    /// The same of a reference that is in bounds at each place: those at which the node owns what it names.
+    fn common_owned(
+        &self,
+        alloc: Global,
+        reference: &Reference,
+        lists: &[Vec<u32>],
+    ) -> Result<Option<Lists>, OutOfMemory>
+        requires lies { Lies self.now.extents.now self.now.owners.now.layouts (named_of reference.now) }
+        requires lists { (a : ℕ → ℕ → Bool) × (map (λ v. v.items) lists.now ≡ passing a 0 self.now.extents.now) }
+        ensures { (a : ℕ → ℕ → Bool) → map (λ v. v.items) lists.now ≡ passing a 0 self.now.extents.now
+            → IfOk result (λ r. IfSome r (λ kept. (b : ℕ → ℕ → Bool) × (map (λ v. v.items) kept.items ≡ passing b 0 self.now.extents.now)
+            × ((places : List ℕ) → each b 0 places ≡ true → (each a 0 places ≡ true)
+            × (holds (owns_if_named self.now.owners.now.layouts self.now.id (named_of reference.now)) places ≡ true)))) }
+    {
+        let Some(owned) = self.places(alloc, reference)? else {
+            return Ok(None);
+        };
+        let kept = common_lists(alloc, lists, &owned)?;
+        Ok(Some(kept))
+    }
+
+    /// The same of any reference, place by place.
+    fn kept_owned(
+        &self,
+        alloc: Global,
+        reference: &Reference,
+        lists: &[Vec<u32>],
+    ) -> Result<Option<Lists>, OutOfMemory>
+        requires lies { Lies self.now.extents.now self.now.owners.now.layouts (named_of reference.now) }
+        ensures { (a : ℕ → ℕ → Bool) → map (λ v. v.items) lists.now ≡ passing a 0 self.now.extents.now
+            → IfOk result (λ r. IfSome r (λ kept. (b : ℕ → ℕ → Bool) × (map (λ v. v.items) kept.items ≡ passing b 0 self.now.extents.now)
+            × ((places : List ℕ) → each b 0 places ≡ true → (each a 0 places ≡ true)
+            × (holds (owns_if_named self.now.owners.now.layouts self.now.id (named_of reference.now)) places ≡ true)))) }
+    {
+        let Some(table) = self.owners.table(reference.row) else {
+            return Ok(None);
+        };
+        let Some(holding) = Holding::new(table, self.id, reference) else {
+            return Ok(None);
+        };
+        let owning = Owning {
+            holding: &holding,
+            reference,
+        };
+        let kept = owning.kept(alloc, lists)?;
+        Ok(Some(kept))
     }
 }

@@ -8,7 +8,7 @@ use Rattle.axis_products.specs.Products.{combined, each, number_at, passing, pla
 use Rattle.axis_products.specs.Tests.{ArePlaces, Test, holds}
 use Rattle.axis_products.proofs.Products.{held}
 use Rattle.courses.specs.References.{Named}
-use Rattle.visited_tuples.specs.Owned.{Lies, OwnsRow, owns_named}
+use Rattle.visited_tuples.specs.Owned.{Lies, OwnsRow, owns_if_named}
 use Rattle.visited_tuples.specs.Own.{IsOwn, listed_tuples}
 use Rattle.visited_tuples.specs.Visited.{IsTaking}
 use Rattle.visited_tuples.proofs.Members.{all-of, all-at, filter-agree, is-one, one-passing, passing-one}
@@ -49,7 +49,7 @@ module _ (computes : (node tuple : ℕ) → Bool) (nodes : ℕ) (ns : List ℕ) 
 pub taking-beyond : (computes : (node tuple : ℕ) → Bool) (nodes : ℕ) (ns : List ℕ) (id : ℕ) (lists : List (List ℕ)) (beside : List ℕ)
     (layouts : List Layout) (rs : List Named) (b : ℕ → ℕ → Bool) (ts : List ℕ)
     → IsOwn computes nodes ns id (Some lists) beside → All (Lies ns layouts) rs
-    → ((places : List ℕ) → each b 0 places ≡ true → list_all (λ r. holds (owns_named layouts id r) places) rs ≡ true)
+    → ((places : List ℕ) → each b 0 places ≡ true → list_all (λ r. holds (owns_if_named layouts id r) places) rs ≡ true)
     → All (λ t. t < product ns) ts
     → ((a : ℕ → ℕ → Bool) → lists ≡ passing a 0 ns → (t : ℕ) → t < product ns → is-one ts t ≡ (each a 0 (places_at ns t) && not (each b 0 (places_at ns t))))
     → IsTaking computes layouts ns rs id ts

@@ -10,7 +10,7 @@ ghost use Rattle.axis_products.specs.Products.{each, passing, places_at};
 ghost use Rattle.axis_products.specs.Tests.{holds, ArePlaces};
 ghost use Rattle.courses.specs.Owners.{IsLaidOut, bounds_test};
 ghost use Rattle.courses.specs.References.{Named, named_spot};
-ghost use Rattle.visited_tuples.specs.Owned.{Lies, owns_named};
+ghost use Rattle.visited_tuples.specs.Owned.{Lies, owns_if_named, owns_named};
 ghost use Rattle.visited_tuples.specs.Own.{IsOwn, listed_tuples};
 ghost use Rattle.visited_tuples.specs.Visited.{IsTaking, Suffice, IsSending, AreAlike, IsHeld, IsSendingOf};
 ghost use Rattle.message_elements.specs.declared.candidates.Candidates.{Candidates};
@@ -23,10 +23,10 @@ pub fn owned_by_places()
         → named_spot ns t r ≡ Some spot → owns_spot layouts node spot ≡ holds (owns_named layouts node r) (places_at ns t) }
 {}
 
-/// Where the tests of all references hold at a tuple's places, the node owns all that is read there.
+/// Where at a tuple's places all references name what the node owns, or nothing, it owns all that is read there.
 pub fn owned_reads()
     ensures { (ns : List ℕ) (layouts : List Layout) (rs : List Named) (node t : ℕ) (spot : Spot) → All (Lies ns layouts) rs
-        → list_all (λ r. holds (owns_named layouts node r) (places_at ns t)) rs ≡ true → names_spot (map (named_spot ns t) rs) spot ≡ true
+        → list_all (λ r. holds (owns_if_named layouts node r) (places_at ns t)) rs ≡ true → names_spot (map (named_spot ns t) rs) spot ≡ true
         → owns_spot layouts node spot ≡ true }
 {}
 
@@ -41,7 +41,7 @@ pub fn taken_beyond()
     ensures { (computes : (node tuple : ℕ) → Bool) (nodes : ℕ) (ns : List ℕ) (id : ℕ) (lists : List (List ℕ)) (beside : List ℕ)
         (layouts : List Layout) (rs : List Named) (b : ℕ → ℕ → Bool) (ts : List ℕ)
         → IsOwn computes nodes ns id (Some lists) beside → All (Lies ns layouts) rs
-        → ((places : List ℕ) → each b 0 places ≡ true → list_all (λ r. holds (owns_named layouts id r) places) rs ≡ true)
+        → ((places : List ℕ) → each b 0 places ≡ true → list_all (λ r. holds (owns_if_named layouts id r) places) rs ≡ true)
         → All (λ t. t < product ns) ts
         → ((a : ℕ → ℕ → Bool) → lists ≡ passing a 0 ns → (t : ℕ) → t < product ns
         → list_any (λ v. v == t) ts ≡ (each a 0 (places_at ns t) && not (each b 0 (places_at ns t))))

@@ -6,7 +6,7 @@ use Rattle.axis_products.specs.Products.{each, passing}
 use Rattle.axis_products.specs.Tests.{ArePlaces, holds}
 use Rattle.course_forms.specs.Views.{names_of}
 use Rattle.visited_tuples.specs.Own.{IsOwn}
-use Rattle.visited_tuples.specs.Owned.{owns_named}
+use Rattle.visited_tuples.specs.Owned.{owns_if_named}
 use Rattle.visited_tuples.specs.Visited.{IsTaking}
 use Rattle.visited_tuples.proofs.Taken.{taking-all, taking-beyond, taking-nothing}
 use Rattle.part_visits.proofs.AxisLists.{as-many, length-passing}
@@ -33,7 +33,7 @@ tuples_beyond-requires-clause-inner_axes c =
     let ns = c.args.self.now.extents.now in
     let layouts = c.args.self.now.owners.now.layouts in
     let inner = subst (λ o. IfSome o (λ inner. (b : ℕ → ℕ → Bool) × (map (λ v. v.items) inner.items ≡ passing b 0 ns)
-    × ((places : List ℕ) → each b 0 places ≡ true → list_all (λ r. holds (owns_named layouts c.args.self.now.id r) places) (names_of c.args.reads.now) ≡ true)))
+    × ((places : List ℕ) → each b 0 places ≡ true → list_all (λ r. holds (owns_if_named layouts c.args.self.now.id r) places) (names_of c.args.reads.now) ≡ true)))
     c.in-Some-2.is c.in_ok-inner.ensures in
     ap length c.deref-in-Some-2-2.ensures.value ∙ sym (length-map c.in-Some-2.inner.items (λ v. v.items)) ∙ ap length inner.1 ∙ length-passing inner.0 0 ns
 
@@ -43,7 +43,7 @@ returns-in_ok-beyond-in-Some-2 c who own =
     let layouts = c.args.self.now.owners.now.layouts in
     let lists = map (λ v. v.items) c.in-Some.lists.items in
     let inner = subst (λ o. IfSome o (λ inner. (b : ℕ → ℕ → Bool) × (map (λ v. v.items) inner.items ≡ passing b 0 ns)
-    × ((places : List ℕ) → each b 0 places ≡ true → list_all (λ r. holds (owns_named layouts c.args.self.now.id r) places) (names_of c.args.reads.now) ≡ true)))
+    × ((places : List ℕ) → each b 0 places ≡ true → list_all (λ r. holds (owns_if_named layouts c.args.self.now.id r) places) (names_of c.args.reads.now) ≡ true)))
     c.in-Some-2.is c.in_ok-inner.ensures in
     taking-beyond who c.args.self.now.owners.now.nodes ns c.args.self.now.id lists c.args.own.now.beside.items layouts (names_of c.args.reads.now) inner.0 c.in_ok-beyond-in-Some-2.beyond.items
     (subst (λ o. IsOwn who c.args.self.now.owners.now.nodes ns c.args.self.now.id (option_map (λ lists. map (λ v. v.items) lists.items) o) c.args.own.now.beside.items) c.in-Some.is own)
