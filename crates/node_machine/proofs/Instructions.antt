@@ -9,7 +9,7 @@ use Rattle.machine_steps.specs.Instr.{Control, Instr, Local}
 use Rattle.machine_steps.specs.Machine.{finish, instr_at, instr_of}
 use Rattle.machine_steps.specs.Node.{Node, begun_by, done_by}
 use Rattle.code_meaning.specs.FaultValues.{fault_values}
-use Rattle.node_code.specs.Instructions.{Instruction, Fetch, Store, Par, ParForall, ParNest, MakeCopies, MakeCopy, ParCopy, ParForallCopy, Verdict, Reduce, Print, FoldCopy, LastCopy, Remap}
+use Rattle.node_code.specs.Instructions.{Instruction, Fetch, Store, Par, ParForall, ParNest, MakeCopies, MakeCopy, ParCopy, ParForallCopy, Verdict, Reduce, Print, FoldCopy, LastCopy, ScanCopy, Remap}
 use Rattle.code_meaning.specs.Instructions.{meaning_of}
 use Rattle.code_meaning.specs.ProgramText.{Text, table_on, text, text_meaning, texts}
 use Rattle.node_code.specs.Texts.{instruction, instructions}
@@ -78,6 +78,7 @@ module _ (nodes : ℕ) (maps : List Mapping) (shapes : List (List Dim)) where
   local-meaning (Print items) is = cc
   local-meaning (FoldCopy copy o x) is = cc
   local-meaning (LastCopy copy set x) is = cc
+  local-meaning (ScanCopy copy o) is = cc
   local-meaning (Remap line new) is = cc
   local-meaning i is = refl
 

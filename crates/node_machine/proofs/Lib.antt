@@ -8,6 +8,7 @@ mod Picks
 mod PostLaws
 mod PrintLaws
 mod RemapSteps
+mod ScanSteps
 mod StoredPieces
 mod TreeSteps
 pub use Rattle.part_steps.proofs.kept_exchanges.KeptExchanges

@@ -1,6 +1,6 @@
 -- Of private clauses.
 -- No public clause cites this file. What the instruction at a node's place has it do.
-use Rattle.std.specs.Prelude.{◌≡◌, ◌<◌, ◌≤◌, ◌^◌, ℕ, List, Some, length, option_map, true, ⊤}
+use Rattle.std.specs.Prelude.{◌≡◌, ◌<◌, ◌≤◌, ◌^◌, ℕ, List, [], Some, length, option_map, true, ⊤}
 use Rattle.std.specs.List.{slice_get}
 use Rattle.hpf_base.specs.declared.index.Shape.{Shape}
 use Rattle.hpf_base.specs.declared.limits.TheConstants.{MAX_RANK}
@@ -12,9 +12,9 @@ use Rattle.machine_steps.specs.Node.{Node, begun_by, done_by}
 use Rattle.machine_steps.specs.Rounds.{rounds_on}
 use Rattle.code_meaning.specs.FaultValues.{fault_values}
 use Rattle.node_code.specs.Instructions.{Instruction, PrintSection}
-use Rattle.code_meaning.specs.Instructions.{item_of}
+use Rattle.code_meaning.specs.Instructions.{item_of, lies_alone}
 use Rattle.code_meaning.specs.Parallel.{fold_of}
-use Rattle.code_meaning.specs.ProgramText.{Text, text_meaning}
+use Rattle.code_meaning.specs.ProgramText.{Text, table_on, text_meaning}
 use Rattle.node_code.specs.Texts.{evaluation, flat, flat_anchor, subs}
 use Rattle.machine_steps.specs.SameLayouts.{is_same_layout}
 use Rattle.slot_values.specs.LocalInstructions.{is_local}
@@ -63,6 +63,7 @@ Does i nodes k (step.PrintSection s) = IsPrintedSection i k s
 Does i nodes k step.PrintLine = PrintsLine i k
 Does i nodes k (step.FoldCopy f) = i ≡ machine.FoldCopy f.copy (fold_of f.op) f.slot
 Does i nodes k (step.LastCopy l) = i ≡ machine.LastCopy l.copy l.set is_same_layout l.slot
+Does i nodes k (step.ScanCopy s) = i ≡ machine.Scan s.copy (lies_alone (table_on nodes [] [])) (fold_of s.op)
 Does i nodes k (step.Remap new) = i ≡ machine.Remap (remappings_of new) (rounds_on nodes (remappings_of new))
 
 -- the item of a PRINT has this done

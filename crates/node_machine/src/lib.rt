@@ -28,6 +28,7 @@ mod post;
 mod prints;
 mod reductions;
 mod remaps;
+mod scans;
 mod sections;
 mod stage;
 mod step;

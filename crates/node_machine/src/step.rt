@@ -18,6 +18,7 @@ use crate::parts::{ParStep, Parallel};
 use crate::prints::{PrintedText, print_step};
 use crate::reductions::Reducing;
 use crate::remaps::NewMappings;
+use crate::scans::Scanning;
 use crate::sections::PrintedSection;
 use crate::trees::Reduction;
 use node_code::Instruction;
@@ -51,6 +52,7 @@ pub(crate) enum Step<'a> {
     PrintLine,
     FoldCopy(Folding),
     LastCopy(LastValue),
+    ScanCopy(Scanning),
     Remap(NewMappings<'a>),
 }
 
@@ -192,6 +194,10 @@ fn step_of<'a>(program: &'a NodeProgram, i: &'a Instruction, substep: usize) -> 
             copy: *copy,
             set: *set,
             slot: *slot,
+        }),
+        Instruction::ScanCopy { copy, join } => Step::ScanCopy(Scanning {
+            copy: *copy,
+            op: *join,
         }),
         Instruction::Remap { new, .. } => Step::Remap(NewMappings {
             tables: &program.tables,

@@ -70,6 +70,7 @@ impl Node {
             Step::PrintLine => self.print_line(),
             Step::FoldCopy(f) => self.begin_fold(f),
             Step::LastCopy(l) => self.begin_last(l),
+            Step::ScanCopy(s) => self.begin_scan(s),
             Step::Remap(new) => {
                 let after = self.owners_after(new)?;
                 self.begin_remap(after)
@@ -112,6 +113,7 @@ impl Node {
             Step::PrintLine => Ok(()),
             Step::FoldCopy(f) => self.finish_fold(f),
             Step::LastCopy(l) => self.finish_last(l),
+            Step::ScanCopy(s) => self.finish_scan(s),
             Step::Remap(new) => {
                 let after = self.owners_after(new)?;
                 self.finish_remap(after)
