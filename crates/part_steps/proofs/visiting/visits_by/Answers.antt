@@ -38,7 +38,7 @@ returns-in_ok-found-in-First c =
     let order : AreInOrder w ns rs =
     subst (λ ns. AreInOrder w ns rs) (sym c.as_slice-extents.ensures.value)
     (subst (λ rs. AreInOrder w c.args.references.now.extents.items (names_of rs)) (sym c.as_slice-reads.ensures.value)
-    (c.requires.order c.if-in_order.false)) in
+    (c.requires.order c.if-not-references.false)) in
     subst (λ who. IfSome c.in_ok-found-in-First.found (AreCandidates owners.nodes owners.layouts (part_of (record { who = who; nodes = owners.nodes; layouts = owners.layouts; statement = w })) c.args.id))
     (sym c.in-First.is)
     (if-some-map c.in_ok-found-in-First.found
