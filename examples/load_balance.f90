@@ -1,5 +1,5 @@
-! The rows of a triangle in blocks of about as many elements: SUM_PREFIX says how many there are up to each row, and a row goes to the
-! node in whose share its middle lies. The sizes that are printed are those of uneven_rows.
+! The rows of a triangle in blocks of about as many elements: SUM_PREFIX says how many there are up to each row,
+! and a row goes to the node in whose share its middle lies. The sizes that are printed are those of uneven_rows.
 PROGRAM LOAD_BALANCE
 INTEGER, PARAMETER :: N = 16, NODES = 4
 INTEGER :: COST(N), UPTO(N), LAST(0:NODES), SIZES(NODES), SHARES(NODES), I, K
