@@ -1,5 +1,5 @@
 -- A copy of one dimension that lies beside nothing lies in blocks, one node's after another's.
-use Rattle.std.proofs.Common.{◌≡◌, ℕ, zero, suc, ◌+◌, ◌-◌, ◌*◌, ◌%◌, ◌<◌, ◌≤◌, Bool, true, false, ◌==◌, ◌&&◌, if◌then◌else◌, pos, ℤ, List, [], ◌∷◌, Some, get_or, length, map, refl, sym, ◌∙◌, ap, subst, arith, eq-eqb, ⊎_elim}
+use Rattle.std.proofs.Common.{◌≡◌, ℕ, zero, suc, ◌+◌, ◌%◌, ◌<◌, ◌≤◌, Bool, true, false, ◌==◌, ◌&&◌, if◌then◌else◌, pos, ℤ, List, [], ◌∷◌, Some, get_or, length, map, refl, ◌∙◌, ap, arith, eq-eqb, ⊎_elim}
 use Rattle.std.specs.List.{flat_map, range_with_len}
 use Rattle.std.proofs.Math.Nat.{lt_of_mul-lt-mul_right, mod-eq_of_lt, mul-one}
 use Rattle.std.proofs.lemmas.Bool.{cases_eq, ne_eqb}
@@ -8,8 +8,8 @@ use Rattle.mappings.specs.Alignment.{agrees_at, aligned}
 use Rattle.mappings.specs.Owner.{block_line, coordinate, default_block}
 use Rattle.mappings.proofs.Blocks.{coordinate-within, default_block-some}
 use Rattle.hpf_base.specs.ElementOrder.{product}
-use Rattle.machine_steps.specs.Layout.{Layout, IsInBlocks, element_index, owned_by, piece, size_of, values_at}
-use Rattle.machine_steps.specs.CopyLayout.{copy_extents, copy_layout, copy_shape, layout_of}
+use Rattle.machine_steps.specs.Layout.{Layout, IsInBlocks, element_index, owned_by, size_of, values_at}
+use Rattle.machine_steps.specs.CopyLayout.{copy_layout, copy_shape, layout_of}
 use Rattle.machine_steps.specs.Space.{space_count}
 use Rattle.machine_steps.proofs.Owners.{owned-inside}
 use Rattle.aligned_copies.proofs.CopyLaws.{block-below, extents-back, last-aligned, line-coordinates, position-of}

@@ -12,7 +12,8 @@
 //!
 //! *Proved:* A copy has an element for each tuple of its space, wherever it lies: `copies_have_sizes`. Beside an array each of its positions
 //! has exactly the owners of the element that is assigned there, with replicated arrays, strides, reversed order, fixed subscripts and every
-//! format: `copies_lie_beside`. One of one dimension that lies beside nothing is the nodes' pieces in a row: `copies_lie_in_blocks`. Each element has an owner: `copies_are_dealt`. Its layout depends on the anchor's row alone: `copies_keep`.
+//! format: `copies_lie_beside`. One of one dimension that lies beside nothing is the nodes' pieces in a row:
+//! `copies_lie_in_blocks`. Each element has an owner: `copies_are_dealt`. Its layout depends on the anchor's row alone: `copies_keep`.
 //! It is valid, with numbers of 64 bits, where that of the array is: `copies_are_laid`, `copies_fit`.
 #![tactic(auto)]
 

@@ -1,5 +1,5 @@
 -- Of the claim.
--- Circular shifts, transposes and prefix sums of whole arrays (Fortran 95, 13.14.25 and 13.14.114; HPF 2.0, 7.4). Elements go by their places in array
+-- Circular shifts, transposes and prefix sums of whole arrays (Fortran 95, 13.14.26 and 13.14.111; HPF 2.0, 7.4). Elements go by their places in array
 -- element order, whatever the bounds of the arrays are.
 use Rattle.std.specs.Prelude.{ℕ, ◌+◌, ◌*◌, ◌/◌, ◌%◌, bytes_eq, unsigned_abs, List, [], ◌∷◌, map, reverse, slice_index_or, take, ℤ, pos, ◌+ℤ◌, Bool, Option, Some, Result, Ok, if◌then◌else◌}
 use Rattle.std.specs.Int.{int_rem_euclid}

@@ -33,7 +33,6 @@ use Rattle.array_meaning.specs.Transformations.{extents_of, shift_of, has_shape,
 use Rattle.machine_steps.specs.Space.{space_count}
 use Rattle.machine_steps.specs.Instr.{Running}
 use Rattle.machine_steps.specs.Machine as machine
-use Rattle.machine_steps.specs.Machine.{effect_of}
 use Rattle.code_meaning.specs.Flat.{slot}
 use Rattle.code_meaning.specs.Forms.{selections_at, selections_in, elemental_at}
 use Rattle.node_code.specs.Parallel.{Assignment}

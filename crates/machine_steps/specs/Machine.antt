@@ -137,7 +137,7 @@ module _ {F : Type 0} where
   folded f outcome zero = f.unit
   folded f outcome (suc t) = join_outcome f (outcome t) (folded f outcome t)
 
--- each of some values joined with those before it, in order (HPF 2.0, 7)
+-- each of some values joined with those before it, in order (HPF 2.0, 7.4)
 abbrev pub scan : Fold → List ℤ → List ℤ
 scan f values = map (λ at. fold f.join f.unit (take (at + 1) values)) (range_with_len 0 (length values))
 

@@ -3,7 +3,7 @@
 use Rattle.std.specs.Prelude.{ℕ, ◌+◌, ◌-◌, ◌*◌, ◌%◌, ◌^◌, ◌==◌, ◌&&◌, Bool, nat_lt, nat_le, if◌then◌else◌}
 use Rattle.machine_steps.specs.Layout.{first}
 
--- the least number of rounds by which node 0 can have heard from all
+-- the least number of rounds by which node 0 can have heard from all, and in a scan the last node
 abbrev pub levels_of : ℕ → ℕ
 levels_of count = first (λ r. nat_le count (2 ^ r)) 0 (count + 1)
 

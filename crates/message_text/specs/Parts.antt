@@ -96,12 +96,12 @@ space_of (OfNest nest asked part) = index_extents nest.axes
 space_of Redistributed = []
 
 -- an element of the copy of a mask or of the source of a prefix sum, which stands after the declared names, of which there are as many as scalars
-abbrev pub mask_spot : List ℤ → ℕ → Option Spot
-mask_spot scalars t = Some record { row = length scalars; at = t }
+abbrev pub copy_spot : List ℤ → ℕ → Option Spot
+copy_spot scalars t = Some record { row = length scalars; at = t }
 
 abbrev pub mask_reads : List ℤ → Bool → ℕ → List (Option Spot)
 mask_reads scalars false t = []
-mask_reads scalars true t = mask_spot scalars t ∷ []
+mask_reads scalars true t = copy_spot scalars t ∷ []
 
 -- what is read at a tuple: the mask or other copies, and then the elements that the expression names, in the order of the text
 abbrev pub reads_of : Setting → List ℤ → Event → ℕ → List (Option Spot)
@@ -110,7 +110,7 @@ reads_of s scalars (ValuesCopied beside ns x) t = reads_at s.shapes (positions n
 reads_of s scalars (Reduced o ns x) t = reads_at s.shapes (positions ns t) x
 reads_of s scalars (ForallMask beside axes e) t = named_in s.shapes scalars (indices_at axes t) e
 reads_of s scalars (ElementsAssigned masked beside axes a ts e) t = mask_reads scalars masked t ++ named_in s.shapes scalars (indices_at axes t) e
-reads_of s scalars (CopyAssigned axes a ts) t = mask_spot scalars t ∷ []
+reads_of s scalars (CopyAssigned axes a ts) t = copy_spot scalars t ∷ []
 reads_of s scalars (OfNest nest asked part) t = conditions_read nest scalars asked t ++ part_read nest scalars s.shapes part t
 reads_of s scalars Redistributed t = []
 
@@ -120,7 +120,7 @@ left_of s scalars (SectionAssigned masked beside ns a ds x) t = spot_of s.shapes
 left_of s scalars (ElementsAssigned masked beside axes a ts e) t = spot_of s.shapes a (subscripts_in scalars (indices_at axes t) ts)
 left_of s scalars (CopyAssigned axes a ts) t = spot_of s.shapes a (subscripts_in scalars (indices_at axes t) ts)
 left_of s scalars (OfNest nest asked part) t = part_assigned nest scalars s.shapes part t
-left_of s scalars event t = mask_spot scalars t
+left_of s scalars event t = copy_spot scalars t
 
 -- who computes a tuple: the owners of the element that is assigned, or in a reduction the least owner of the first element that is
 -- read; node 0 where there is none

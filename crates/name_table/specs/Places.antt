@@ -93,7 +93,7 @@ abbrev pub whole_rank : SymbolTable → Expression → ℕ
 whole_rank t (Name x) = rank_of (find x t)
 whole_rank t e = 0
 
--- CSHIFT, TRANSPOSE and SUM_PREFIX of a whole array, where it goes into a whole array of this rank (13.14.25 and 13.14.114; HPF 2.0, 7.4)
+-- CSHIFT, TRANSPOSE and SUM_PREFIX of a whole array, where it goes into a whole array of this rank (13.14.26 and 13.14.111; HPF 2.0, 7.4)
 abbrev pub transforms_to : Context → SymbolTable → ℕ → Op → Parts → Bool
 transforms_to c t rank op.CShift (More (One b) (More (One s) End)) =
     nat_le 1 rank && (nat_eq (whole_rank t b) rank && if_typed is_integer_scalar (type_and_rank c t s))

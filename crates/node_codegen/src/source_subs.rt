@@ -1,4 +1,4 @@
-//! The sides of a circular shift or of a transpose as an assignment of elements (Fortran 95, 13.14.25 and 13.14.114), over an index for each dimension of
+//! The sides of a circular shift or of a transpose as an assignment of elements (Fortran 95, 13.14.26 and 13.14.111), over an index for each dimension of
 //! the target. An `Err` is want of memory here.
 
 ghost use Rattle.std.specs.Prelude.{◌≡◌, [], ◌∷◌, ◌++◌, pos, IfOk, OnOk};

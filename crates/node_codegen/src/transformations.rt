@@ -1,4 +1,4 @@
-//! Circular shifts, transposes and prefix sums of whole arrays (Fortran 95, 13.14.25 and 13.14.114; HPF 2.0, 7.4).
+//! Circular shifts, transposes and prefix sums of whole arrays (Fortran 95, 13.14.26 and 13.14.111; HPF 2.0, 7.4).
 
 ghost use Rattle.std.specs.Prelude.{◌≡◌, ◌+◌, [], ◌∷◌, ◌++◌, map, max, pos, slice_index_or, IfOk, OnOk};
 ghost use Rattle.expression_rules.specs.Dims.{extent, AreDims};

@@ -69,7 +69,7 @@ impl Node {
         lies_alone(&self.owners, row)
     }
 
-    /// The number of the elements that it has of the copy, joined in order, if there are any.
+    /// What it has of the copy, joined in order, as one number, or none.
     fn own_scan(&self, scan: Scanning) -> Result<Vec<i64>, OutOfMemory>
         ensures { IfOk result (λ v. v.items ≡ option_values (join_all (join scan.op) (row_of self.now.pieces scan.copy))) }
     {
@@ -98,7 +98,7 @@ impl Node {
         )
     }
 
-    /// The number of what the node has after a round in which this came.
+    /// What the node has after a round in which this came, as one number, or none.
     fn scan_absorbed(&self, op: Join, came: Option<i64>) -> Result<Vec<i64>, OutOfMemory>
         ensures { IfOk result (λ v. v.items ≡ option_values (join_options (join op) came (values_option self.now.folded))) }
     {

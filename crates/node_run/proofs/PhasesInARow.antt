@@ -1,11 +1,11 @@
 -- Phases one after another: nodes before a phase lead to those of a state of the machine.
-use Rattle.std.proofs.Common.{◌≡◌, ℕ, ◌<◌, Bool, false, if◌then◌else◌, ℤ, List, [], ◌∷◌, Option, refl, sym, ◌∙◌, ap, subst, arith, get_or}
+use Rattle.std.proofs.Common.{◌≡◌, ℕ, ◌<◌, Bool, false, ℤ, List, [], ◌∷◌, Option, refl, sym, subst, arith, get_or}
 use Rattle.std.proofs.Math.Path.{fun_ext}
 use Rattle.std.proofs.lemmas.Bool.{lt-ltb}
 use Rattle.node_law.specs.declared.act.Act.TheVariants.{Local}
 use Rattle.node_law.specs.NodeSteps.{Move}
 use Rattle.node_law.specs.Phases.{PhaseShare, LeadsTo, next_number, number_after}
-use Rattle.machine_steps.specs.Agrees.{by_number, Own, AreNumbered, standing, Exchange, Carries, AreCarried}
+use Rattle.machine_steps.specs.Agrees.{by_number, Own, AreNumbered, standing, Exchange, AreCarried}
 use Rattle.machine_steps.specs.Instr.{Instr}
 use Rattle.machine_steps.specs.Machine.{Machine, Kept}
 use Rattle.machine_steps.specs.Node.{FaultValues, Node, act_of, node_steps}

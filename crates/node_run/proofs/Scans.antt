@@ -1,5 +1,5 @@
 -- A scan: nodes that agree with the machine pass its rounds, and then have what it has.
-use Rattle.std.proofs.Common.{◌≡◌, ℕ, zero, suc, ◌+◌, ◌-◌, ◌^◌, ◌<◌, ◌≤◌, ◌==◌, Bool, true, false, if◌then◌else◌, ℤ, pos, List, [], ◌∷◌, ◌++◌, map, length, Option, Some, None, nat_lt, refl, sym, ◌∙◌, ap, subst, arith, ◌⊎◌, inl, inr, get_or, set, eq-eqb}
+use Rattle.std.proofs.Common.{◌≡◌, ℕ, zero, suc, ◌+◌, ◌-◌, ◌^◌, ◌<◌, ◌≤◌, Bool, true, false, if◌then◌else◌, ℤ, List, [], ◌∷◌, map, length, Option, Some, None, nat_lt, refl, sym, ◌∙◌, ap, subst, arith, ◌⊎◌, inl, inr, get_or, set, eq-eqb}
 use Rattle.std.specs.List.{fold, range_with_len, slice_get}
 use Rattle.std.proofs.lemmas.Bool.{cases_lt, lt-ltb, le-ltb, ne_eqb}
 use Rattle.std.proofs.lemmas.List.{map-append}
@@ -7,20 +7,20 @@ use Rattle.std.proofs.lemmas.List.Sums.{fold-append}
 use Rattle.hpf_base.specs.declared.index.Shape.{Shape}
 use Rattle.hpf_base.proofs.Ranges.{range_with_len-add}
 use Rattle.op_tables.specs.Joins.{IsJoin}
-use Rattle.prefix_scan.specs.Scan.{scanned, taken, take_of}
+use Rattle.prefix_scan.specs.Scan.{scanned, taken}
 use Rattle.prefix_scan.proofs.Rounds.{below-all}
 use Rattle.node_law.specs.declared.act.Act.TheVariants.{Local}
 use Rattle.node_law.specs.Phases.{next_number}
-use Rattle.storage.specs.Storage.{Storage, row_of}
+use Rattle.storage.specs.Storage.{row_of}
 use Rattle.machine_steps.specs.Agrees.{Own, AreNumbered, standing, Agree, IsFold, IsWhole}
 use Rattle.machine_steps.specs.Instr.{Instr, Fold, Running, Scan}
-use Rattle.machine_steps.specs.Layout.{Layout, IsInBlocks, sizes, size_of, owned_by, owned_in, piece, pieces}
-use Rattle.machine_steps.specs.Machine.{Machine, lies_so, on, scan, scanned_rows, step_by, instr_at}
-use Rattle.machine_steps.specs.Node.{FaultValues, Node, Stage, Ready, Passed, no_values, act_of, node_steps, worked_by, done_by, join_options, join_below, join_all, option_values, values_option, scan_after, scan_next, scan_absorbed, scan_came}
+use Rattle.machine_steps.specs.Layout.{Layout, IsInBlocks, sizes, size_of, piece, pieces}
+use Rattle.machine_steps.specs.Machine.{Machine, lies_so, scan, scanned_rows, step_by, instr_at}
+use Rattle.machine_steps.specs.Node.{FaultValues, Node, Stage, Ready, Passed, no_values, act_of, node_steps, join_options, join_below, join_all, option_values, values_option, scan_after, scan_next}
 use Rattle.machine_steps.specs.Tree.{levels_of, scan_sends}
 use Rattle.node_run.specs.Letters.{Carrying, scan_share, scan_rounds, scan_exchanges}
 use Rattle.node_run.proofs.Copies.{owned-found}
-use Rattle.node_run.proofs.Exchange.{Opens, passed, taken_bodies, counted}
+use Rattle.node_run.proofs.Exchange.{passed, taken_bodies, counted}
 use Rattle.node_run.proofs.JoinedValues.{join-assoc, join-comm, join-none}
 use Rattle.node_run.proofs.PartPhase.{length-no_values, get-no_values}
 use Rattle.node_run.proofs.PhasesInARow.{Leads, ends-locally, leads-on, own_with}

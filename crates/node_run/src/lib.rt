@@ -22,7 +22,8 @@
 //! they are phased, and their last nodes agree with its last state: `nodes_step`, `nodes_pass`, `nodes_run`,
 //! `openings_agree`, `openings_run`. The machine over other texts that mean the same does the same: `other_texts`. All
 //! letters of a pair in a whole run are those of the phases that the machine's steps say, each with its phase, its
-//! number and the values of the whole arrays, and there are no others: `letters_exact`; so are those of so many steps
+//! number and the values of the whole arrays, and there are no others, those of a scan in ceil(log2 N) phases on N nodes:
+//! `letters_exact`; so are those of so many steps
 //! from any nodes that agree with the machine: `phases_carried`. A message holds exactly the elements that its taker
 //! needs and doesn't own and whose least owner sends, each once: `message_exact`. What a node receives gives it each
 //! value that it needs: `message_read`. Parallel statements in a row are the parted order of a nest: `parts_in_a_row`.

@@ -4,9 +4,9 @@
 //! tuples that the node computes, and those at which it may take or send something; or None, where that can't be told axis by axis, and each
 //! tuple has to be asked.
 //!
-//! What holds in between: what a node owns of a reference is a product of lists of places, one an axis. It computes such a product, takes something only at those of its
-//! tuples that haven't the places at which it owns all that is read, if it is in bounds, and sends something only at tuples with the places at which it owns what is read and that
-//! it doesn't compute itself. So the time is that of the places and of the tuples at the border of what the node computes, not that of all tuples.
+//! What holds in between: what a node owns of a reference is a product of lists of places, one an axis. It computes such a product, takes
+//! something only at those of its tuples that haven't the places at which it owns each read, or the read is out of bounds, and sends something
+//! only at tuples with the places at which it owns what is read and that it doesn't compute itself. So the time is that of the places and of the tuples at the border of what the node computes, not that of all tuples.
 //! Reads that lie as what is assigned, at the same subscripts, concern no tuple, and are left out before.
 //!
 //! Words of the field: what a node takes at the border of what it computes is its *halo*. No array has room for it: it

@@ -1,4 +1,4 @@
-//! CSHIFT, TRANSPOSE and SUM_PREFIX of whole arrays with their names resolved (Fortran 95, 13.14.25 and 13.14.114; HPF 2.0, 7.4). An `Err` is
+//! CSHIFT, TRANSPOSE and SUM_PREFIX of whole arrays with their names resolved (Fortran 95, 13.14.26 and 13.14.111; HPF 2.0, 7.4). An `Err` is
 //! want of memory here.
 
 ghost use Rattle.std.specs.Prelude.{◌≡◌, Some, option_copied, option_map, unwrap_or, IfOk};

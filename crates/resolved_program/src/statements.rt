@@ -49,7 +49,7 @@ pub struct WholeArray {
     pub dims: Dims,
 }
 
-/// What makes of a whole array a whole array: CSHIFT, by so many places along the first dimension, and TRANSPOSE (13.14.25 and 13.14.114), and
+/// What makes of a whole array a whole array: CSHIFT, by so many places along the first dimension, and TRANSPOSE (13.14.26 and 13.14.111), and
 /// SUM_PREFIX (HPF 2.0, 7.4).
 #[derive(Drop)]
 pub enum Transformation {

@@ -199,7 +199,7 @@ fn summed(alloc: Global, elements: &[i64], dims: &[Dim]) -> Result<Vec<i64>, All
     sums(alloc, elements, size(dims) as usize)
 }
 
-/// The sums of the elements up to each of so many places. Each is wrapped to 64 bits, and where there is no element, one adds nothing.
+/// The sums of the elements up to each of so many places. Each is wrapped to 64 bits, and where there is no element, nothing is added.
 fn sums(alloc: Global, elements: &[i64], count: usize) -> Result<Vec<i64>, AllocError>
     requires { count ≤ MAX_ELEMENTS }
     ensures { IfOk result (λ v. v.items ≡ sums_of elements.now count) }

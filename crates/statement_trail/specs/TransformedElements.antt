@@ -1,5 +1,5 @@
 -- Of the claim.
--- Circular shifts and transposes of whole arrays as assignments of elements (Fortran 95, 13.14.25 and 13.14.114): the indices go along the bounds of the
+-- Circular shifts and transposes of whole arrays as assignments of elements (Fortran 95, 13.14.26 and 13.14.111): the indices go along the bounds of the
 -- target, as in a FORALL with this header, whose assignment has these sides.
 use Rattle.std.specs.Prelude.{ℕ, suc, max, List, [], ◌∷◌, map, slice_index_or, ℤ, pos}
 use Rattle.op_tables.specs.declared.op.Op.{Op}
@@ -57,6 +57,7 @@ abbrev pub transposed_subscripts : (target source : List Dim) → Terms
 transposed_subscripts (d ∷ d' ∷ []) (e ∷ e' ∷ []) = More (from_lower e (above_lower 1 d')) (More (from_lower e' (above_lower 0 d)) NoTerm)
 transposed_subscripts ds es = NoTerm
 
+-- those of the source; a prefix sum moves no elements, and nothing asks for its subscripts
 abbrev pub source_subscripts : Transformation → Term → (target source : List Dim) → Terms
 source_subscripts (CircularShift by) turn ds es = shifted_subscripts turn ds es
 source_subscripts Transposition turn ds es = transposed_subscripts ds es

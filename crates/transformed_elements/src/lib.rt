@@ -1,5 +1,5 @@
 //! Circular shifts and transposes of whole arrays are assignments of elements, as in a FORALL over the bounds of the target (Fortran 95,
-//! 13.14.25 and 13.14.114). Laws alone.
+//! 13.14.26 and 13.14.111). Laws alone.
 //!
 //! Comes in: what a shift and a transpose of a whole array do (`array_meaning`), by places in array element order, and the subscripts of the
 //! source at indices that go along the bounds of the target (`statement_trail`). Goes out: that both store the same.

@@ -1,16 +1,15 @@
 -- Between the ends of a strip the places go by equal steps.
-use Rattle.std.proofs.Common.{◌≡◌, ℕ, ◌+◌, ◌-◌, ◌*◌, ◌<◌, ◌≤◌, All, List, [], ◌∷◌, length, map, Option, Some, None, refl, ap, sym, subst, ◌∙◌, arith}
+use Rattle.std.proofs.Common.{◌≡◌, ℕ, ◌+◌, ◌-◌, ◌*◌, ◌<◌, ◌≤◌, List, [], ◌∷◌, map, Option, Some, None, refl, ap, sym, subst, ◌∙◌, arith}
 use Rattle.std.specs.Prelude.{option_map}
 use Rattle.hpf_base.specs.ElementOrder.{product}
-use Rattle.storage.specs.Storage.{Spot}
-use Rattle.courses.specs.References.{IsAlongAxes, Named, named_spot}
+use Rattle.courses.specs.References.{Named, named_spot}
 use Rattle.course_forms.specs.Views.{named_of}
 use Rattle.course_forms.specs.declared.reference.Reference.{Reference}
 use Rattle.course_lines.proofs.NamedLines.{named_line}
 use Rattle.tuple_values.specs.declared.strips.ElementLine.{ElementLine}
 use Rattle.tuple_values.specs.declared.strips.Strip.{Strip}
 use Rattle.tuple_values.specs.NamedElements.{AreInOrder, AreReferences, spot_if}
-use Rattle.tuple_values.specs.Statements.{Statement, tuple_count, tuple_left, tuple_reads}
+use Rattle.tuple_values.specs.Statements.{Statement, tuple_left, tuple_reads}
 use Rattle.tuple_values.specs.StripEnds.{AreLines, IsLine}
 use Rattle.tuple_values.specs.Strips.{AreReadLines, IsInRow, IsLeftLine, IsWithin, line_spot, spots_at, strip_tuple}
 

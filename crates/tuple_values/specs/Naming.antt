@@ -23,7 +23,7 @@ left_of l = option_map named_of l.reference
 abbrev pub before : List Named → Option (List Named) → Option (List Named)
 before rs o = option_map (λ qs. rs ++ qs) o
 
--- all that is read, in order, or where what is evaluated goes round a dimension
+-- all that is read: a reference for each read, in order, or two where what is evaluated goes round a dimension
 abbrev pub names_by : Bool → List (List Dim) → List ℤ → List ℕ → Option (List Course) → List When → List ℕ → ArrayForm → Option (List Named)
 names_by true = all_names
 names_by false = all_turned_names

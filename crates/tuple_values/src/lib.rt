@@ -2,8 +2,8 @@
 //!
 //! Comes in: an instruction that works at the tuples of a space, the dimensions of the arrays, and the slots. Goes out: how many tuples
 //! there are and, for each tuple, the elements that are read, the element that is assigned, and the value or fault by the values of what
-//! is read. Where each subscript goes along one axis of the space, what is named comes out once for all tuples too, by courses
-//! (`references`).
+//! is read. Where each subscript goes along one axis of the space, or the first goes round its dimension, what is named comes out once for
+//! all tuples too, by courses (`references`).
 //!
 //! What holds in between: all of it is what node_code's definitions say of the instruction, whatever the elements are: they are asked for
 //! one by one (`Elements`), and only where the definitions' evaluation comes to them. A tuple of at most seven entries needs no memory of its

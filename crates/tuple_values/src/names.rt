@@ -202,8 +202,8 @@ fn element_reference(
     }
 }
 
-/// Puts both references of what is evaluated after the others, and whether it is the element of an array whose first subscript goes round its
-/// first dimension.
+/// Puts both references of what is evaluated after the others. True only where it is the element of an array whose first subscript goes round
+/// its first dimension.
 pub(crate) fn turned_references(
     n: &Naming<'_>,
     right: &Right<'_>,

@@ -1,4 +1,4 @@
-use Rattle.std.proofs.Common.{◌≡◌, subst}
+use Rattle.std.proofs.Common.{subst}
 use Rattle.std.specs.Prelude.{option_map}
 use Rattle.course_forms.specs.Views.{named_of, names_of}
 use Rattle.tuple_values.specs.Strips.{IsInRow}
